@@ -8,9 +8,10 @@ import tempfile
 FOLDER = os.path.dirname(os.path.realpath(__file__))
 REPOSITORY = os.path.dirname(FOLDER)
 
-# The folders of cases below this one, and the program that each is for.
-PROGRAMS = {
-    "": "zone_script", "zone_reply": "zone_reply", "zone_serve": "zone_serve", "tests_server": "tests_server",
+# The folders of cases below this one, and the program that each is for; those of zone_script go by their subject.
+SUBJECTS = ("faults", "files", "lists", "malicious", "messages", "networks", "script", "serving", "updates")
+PROGRAMS = {f"zone_script/{it}": "zone_script" for it in SUBJECTS} | {
+    "zone_reply": "zone_reply", "zone_serve": "zone_serve", "tests_server": "tests_server",
     "tests_zones": "tests_zones", "tests_lists": "tests_lists", "tests_tsig": "tests_tsig", "tests_signed": "tests_signed",
     "check_zone": "check_zone", "zone_journal": "zone_journal",
 }
@@ -128,7 +129,7 @@ def all_cases():
             if ending in ENDINGS and name:
                 key = os.path.join(below, name)
                 cases.setdefault(key, Case(program, key)).files[ending] = path
-            elif below and os.path.isfile(path):
+            elif os.path.isfile(path):
                 others.append(path)
     return list(cases.values()), others
 

@@ -31,7 +31,7 @@ MESSAGE = re.compile(r"(?:bytes (?P<told>\d+): )?(?P<digits>(?:[0-9a-f]{2}){12,}
 def outputs():
     """The stored outputs: those of the cases, and those that the programs' own folders have."""
     cases = [it.files["out"] for it in case_files.all_cases()[0] if "out" in it.files]
-    return cases + [f"{case_files.REPOSITORY}/crates/{it}/stdout" for it in case_files.PROGRAMS.values()]
+    return cases + [f"{case_files.REPOSITORY}/crates/{it}/stdout" for it in dict.fromkeys(case_files.PROGRAMS.values())]
 
 
 def messages(text):

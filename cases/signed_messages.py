@@ -339,15 +339,15 @@ def verify(path):
 
 
 def verify_script():
-    """The replies of zone_script to the requests of cases/updates_keys.in, each of which has one."""
+    """The replies of zone_script to the requests of cases/zone_script/updates/updates_keys.in, each of which has one."""
     folder, wanted, asked, passed, failed = os.path.dirname(FOLDER), "", [], 0, 0
-    with open(f"{folder}/updates_keys.in", encoding="ascii") as file:
+    with open(f"{folder}/zone_script/updates/updates_keys.in", encoding="ascii") as file:
         for line in file:
             if line.startswith("# "):
                 wanted = line[2:].strip()
             elif line.startswith("ask "):
                 asked.append((wanted, bytes.fromhex(line[4:])))
-    with open(f"{folder}/updates_keys.out", encoding="ascii") as file:
+    with open(f"{folder}/zone_script/updates/updates_keys.out", encoding="ascii") as file:
         replies = [bytes.fromhex(line) for line in file if re.fullmatch("[0-9a-f]{24,}\n", line)]
     for (wanted, request), reply in zip(asked, replies):
         found = standing(request, [reply])

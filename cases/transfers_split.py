@@ -144,7 +144,7 @@ def write(name, rows):
     script = [it if isinstance(it, str) else it[0] for it in found]
     printed = [line for it in found for line in ([it] if isinstance(it, str) else it[1:])]
     for ending, lines in ("in", script), ("out", printed):
-        with open(f"{FOLDER}/{name}.{ending}", "w", encoding="ascii") as it:
+        with open(f"{FOLDER}/zone_script/serving/{name}.{ending}", "w", encoding="ascii") as it:
             it.writelines(f"{line}\n" for line in lines)
 
 

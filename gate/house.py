@@ -84,16 +84,27 @@ def definitions_of(lines):
         yield found[2], arguments_of(found[1], " ".join(head)), at - first
 
 
+def clause_lines(lines):
+    """Returns the numbers of the lines of clauses: one begins at its word, and ends where its braces are closed."""
+    found, depth = set(), 0
+    for number, line in enumerate(lines):
+        if depth > 0 or CLAUSE.match(line):
+            found.add(number)
+            depth += line.count("{") - line.count("}")
+    return found
+
+
 def long_clauses(path, lines):
     """Yields the place of each line of a clause that is over the bound."""
-    for number, line in enumerate(lines, 1):
-        if CLAUSE.match(line) and len(line) > COLUMNS:
-            yield f"{path}:{number}: a line of a clause of {len(line)} columns"
+    for number in sorted(clause_lines(lines)):
+        if len(lines[number]) > COLUMNS:
+            yield f"{path}:{number + 1}: a line of a clause of {len(lines[number])} columns"
 
 
 def length_of(function, lines):
     """Returns how many lines a function has, its clauses left out."""
-    return sum(not CLAUSE.match(line) for line in lines[function.first : function.last + 1])
+    clauses = clause_lines(lines[function.first : function.last + 1])
+    return function.last + 1 - function.first - len(clauses)
 
 
 def counts_of(crate, functions):

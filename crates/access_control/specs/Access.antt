@@ -77,8 +77,8 @@ IsLongestMatch set address (Some longest) =
 abbrev pub HasFamily : List Network → Family → Type 0
 HasFamily set family = Any (λ network. network.family ≡ family) set
 
--- The rule at the longest matches of the deny set and the allow set: the longer one decides, and the deny set where they
--- are equally long. Where nothing matches, a family that has allowed networks and no denied ones is refused.
+-- The rule at the longest matches of the deny set and the allow set: the longer one decides, and the deny set where
+-- they are equally long. Where nothing matches, a family that has allowed networks and no denied ones is refused.
 abbrev pub Permits : List Network → List Network → Family → Option ℕ → Option ℕ → Type 0
 Permits deny allow family (Some denied) (Some allowed) = denied < allowed
 Permits deny allow family (Some denied) None = ⊥

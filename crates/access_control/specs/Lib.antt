@@ -1,5 +1,4 @@
 pub mod Access
 pub mod NetworkTexts
 pub mod Prefixes
-pub mod Tries
-pub mod TriesFall
+pub mod representation

@@ -1,5 +1,5 @@
--- How networks are spelled: an address in dotted decimals or in groups of hex digits (RFC 4291, section 2.2), and behind
--- a slash how many of its leftmost bits are the prefix (RFC 4632, section 3.1; RFC 4291, section 2.3).
+-- How networks are spelled: an address in dotted decimals or in groups of hex digits (RFC 4291, section 2.2), and
+-- behind a slash how many of its leftmost bits are the prefix (RFC 4632, section 3.1; RFC 4291, section 2.3).
 use Rattle.std.specs.Prelude.{◌≡◌, ◌==◌, ◌<◌, ◌≤◌, ◌++◌, ℕ, List, codes, length}
 use Rattle.std.specs.List.{after_first, before_first, position_or_len}
 use Rattle.std.specs.Net.Grammar.{IsIpText, IsNumber}
@@ -59,7 +59,8 @@ IsPartsFault written digits PrefixLength = ¬ (IsNumeral 10 digits)
 IsPartsFault written digits PrefixTooLong = (address : IpAddr) × IsIpText written address × IsNumeral 10 digits
     × (width (address_of address).family < digits_value 10 digits)
 
--- What is wrong with a text that spells no network: with its parts, where it has a slash, and else that it is no address.
+-- What is wrong with a text that spells no network: with its parts, where it has a slash, and else that it is no
+-- address.
 pub data IsTextFault (text : List ℕ) (fault : IpNetTextError) : Type 0 where
   parts : HasSlash text → IsPartsFault (before_slash text) (behind_slash text) fault → IsTextFault text fault
   whole : ¬ (HasSlash text) → fault ≡ Address → IsNoAddress text → IsTextFault text fault

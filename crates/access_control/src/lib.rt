@@ -375,7 +375,7 @@ impl AccessControl {
         self.decides(address)
     }
 
-    /// The same by the networks that there are.
+    /// Whether the networks that there are let this address use the server.
     #[inline(never)]
     fn decides(&self, address: IpAddr) -> bool
         ensures { IsTrue result ↔ IsAllowed self.now.deny self.now.allow address }

@@ -85,8 +85,8 @@ fn host(address: &str) -> Result<IpNet, IpNetTextError>
     }
 }
 
-/// Reads an address, `/` and the length of the prefix in bits, as `10.0.0.0/8`, or an address alone, whose prefix is all of it. What
-/// stands behind the prefix in the address does not matter.
+/// Reads an address, `/` and the length of the prefix in bits, as `10.0.0.0/8`, or an address alone, whose prefix is
+/// all of it. What stands behind the prefix in the address does not matter.
 impl FromStr for IpNet {
     type Err = IpNetTextError;
 

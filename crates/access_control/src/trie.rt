@@ -7,7 +7,7 @@
 ghost use Rattle.std.specs.Prelude.{◌≡◌, ◌↔◌, ◌<◌, [], ◌∷◌, length, All, IsTrue, if◌then◌else◌, IfOk, OnOk, OnErr};
 ghost use Rattle.access_control.specs.Access.{IsLongestMatch, Inserts};
 ghost use Rattle.access_control.specs.Prefixes.{LiesIn};
-ghost use Rattle.access_control.specs.Tries.{IsNode, networks_of};
+ghost use Rattle.access_control.specs.representation.Tries.{IsNode, networks_of};
 
 use crate::{Address, IpNet};
 use std::alloc::{AllocError, Global};
@@ -41,7 +41,7 @@ impl Model for Trie {
 
     ghost Value = { List Network };
 
-    ghost use Rattle.access_control.specs.Tries.{networks, IsTrie};
+    ghost use Rattle.access_control.specs.representation.Tries.{networks, IsTrie};
 
     ghost view = { λ t. networks t.root };
 
@@ -49,7 +49,7 @@ impl Model for Trie {
 
     ghost size = { length };
 
-    ghost use Rattle.access_control.specs.TriesFall.{size_falls};
+    ghost use Rattle.access_control.specs.representation.TriesFall.{size_falls};
 
     ghost size_decreases = { λ t h. size_falls t.root h };
 }
@@ -76,7 +76,8 @@ impl Trie {
         })
     }
 
-    /// The trie of what is left of the network where a node comes to stand at `common`: nothing where it is the network.
+    /// The trie of what is left of the network where a node comes to stand at `common`: nothing where it is the
+    /// network.
     fn beside(alloc: Global, network: IpNet, common: IpNet) -> Result<Trie, AllocError>
         ensures nothing { common ≡ network → IfOk result (λ trie. trie ≡ []) }
         ensures leaf { ¬ (common ≡ network) → IfOk result (λ trie. trie ≡ network ∷ []) }
@@ -123,7 +124,7 @@ impl Trie {
     }
 
     /// The greatest prefix length of the networks that match the address.
-    // Its callers know the family of the address, so that in their code the tests of it fall away.
+    /// Its callers know the family of the address, so that in their code the tests of it fall away.
     #[inline]
     pub(super) fn longest_match(&self, address: Address) -> Option<u8>
         ensures { IsLongestMatch self.now address result }
@@ -172,7 +173,8 @@ fn split(node: &mut Box<Node>, alloc: Global, network: IpNet) -> Result<(), Allo
 /// Puts a trie on one side of a node that has nothing on the side of ones, and what the node has on the other.
 fn attach(node: &mut Node, below: Trie, is_one: bool)
     requires { node.old.one ≡ [] }
-    ensures { node.new ≡ (if is_one then record node.old { one = below } else record node.old { zero = below; one = node.old.zero }) }
+    ensures { node.new ≡ (if is_one then record node.old { one = below } else record node.old
+        { zero = below; one = node.old.zero }) }
 {
     if is_one {
         node.one = below;

@@ -35,8 +35,8 @@ fn measured_allow(access: &AccessControl, address: IpAddr, rounds: u64) -> u64 {
     allowed
 }
 
-/// Whether an IPv4 address is allowed, where networks are allowed that stand in bytes one behind the other, each an IPv4
-/// address and the length of a prefix; answers in how many rounds it was.
+/// Whether an IPv4 address is allowed, where networks are allowed that stand in bytes one behind the other, each an
+/// IPv4 address and the length of a prefix; answers in how many rounds it was.
 #[unsafe(no_mangle)]
 pub extern "C" fn bench_calls_allow(
     alloc: Global,

@@ -106,8 +106,8 @@ fn answer_transfer(alloc: Global, zone_bytes: &[u8], bytes: &[u8], rounds: u64) 
     answer(alloc, origin, handler, bytes, rounds)
 }
 
-/// Answers a request for a transfer of a zone, whose records are the answers of messages, each behind its length; answers
-/// how many bytes all replies had.
+/// Answers a request for a transfer of a zone, whose records are the answers of messages, each behind its length;
+/// answers how many bytes all replies had.
 #[unsafe(no_mangle)]
 pub extern "C" fn bench_calls_answer_transfer(
     alloc: Global,

@@ -1,8 +1,8 @@
 //! The calls that the benchmarks measure, as C functions over the public calls of the crates below.
 //!
 //! Each function makes what it needs from bytes, then makes one call a number of times, and answers a number that tells
-//! what the calls came to; `WRONG` where the bytes are no input for it or memory was refused. The calls alone stand in a
-//! function whose name begins with `measured`, so that a tool that counts by functions sees them apart.
+//! what the calls came to; `WRONG` where the bytes are no input for it or memory was refused. The calls alone stand in
+//! a function whose name begins with `measured`, so that a tool that counts by functions sees them apart.
 #![tactic(auto)]
 
 mod access;

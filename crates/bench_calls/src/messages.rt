@@ -89,7 +89,8 @@ fn measured_write_message(alloc: Global, message: &MessageRequest, limit: u16, r
     written
 }
 
-/// Writes the message that bytes begin with, within a limit of bytes; answers how many bytes were written in all rounds.
+/// Writes the message that bytes begin with, within a limit of bytes; answers how many bytes were written in all
+/// rounds.
 #[unsafe(no_mangle)]
 pub extern "C" fn bench_calls_write_message(
     alloc: Global,

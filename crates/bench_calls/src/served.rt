@@ -1,5 +1,5 @@
-//! Datagrams served as programs serve them: a server reads each in the place of the one before it, its zones answer as RFC 1034 says, and the replies are
-//! made in the memory of those before.
+//! Datagrams served as programs serve them: a server reads each in the place of the one before it, its zones answer as
+//! RFC 1034 says, and the replies are made in the memory of those before.
 
 use crate::WRONG;
 use crate::answers::catalog;
@@ -82,7 +82,8 @@ fn serve_zone(alloc: Global, zone: &[u8], bytes: &[u8], rounds: u64) -> Option<u
     serve_rounds(alloc, catalog(alloc, origin, zone)?, bytes, rounds)
 }
 
-/// Serves a datagram by a zone, whose records are the answers of messages, each behind its length; answers how many bytes all replies had.
+/// Serves a datagram by a zone, whose records are the answers of messages, each behind its length; answers how many
+/// bytes all replies had.
 #[unsafe(no_mangle)]
 pub extern "C" fn bench_calls_serve(alloc: Global, zone: &[u8], bytes: &[u8], rounds: u64) -> u64 {
     serve_zone(alloc, zone, bytes, rounds).unwrap_or(WRONG)
@@ -136,8 +137,8 @@ fn serve_filtered(
     serve_rounds(alloc, catalog, bytes, rounds)
 }
 
-/// Serves a datagram by a zone, whose records are the answers of messages, each behind its length, and a list of blocked names, a line of text for each, behind it;
-/// answers how many bytes all replies had.
+/// Serves a datagram by a zone, whose records are the answers of messages, each behind its length, and a list of
+/// blocked names, a line of text for each, behind it; answers how many bytes all replies had.
 #[unsafe(no_mangle)]
 pub extern "C" fn bench_calls_serve_filtered(
     alloc: Global,

@@ -3,12 +3,16 @@
 use crate::WRONG;
 use crate::zone::updatable_zone;
 use hickory_server::server::NoKeys;
-use hickory_store::sqlite::SqliteZoneHandler;
+use hickory_store::updates::UpdatableZoneHandler;
 use hickory_wire::{Message, Record};
 use std::alloc::Global;
 
 /// Makes an update that may be made; whether it changed the zone.
-fn update(alloc: Global, zone: &mut SqliteZoneHandler<NoKeys>, records: &[Record]) -> Option<bool> {
+fn update(
+    alloc: Global,
+    zone: &mut UpdatableZoneHandler<NoKeys>,
+    records: &[Record],
+) -> Option<bool> {
     match zone.pre_scan(records) {
         Ok(()) => zone.update_records(alloc, records, true).ok(),
         Err(_) => None,
@@ -18,7 +22,7 @@ fn update(alloc: Global, zone: &mut SqliteZoneHandler<NoKeys>, records: &[Record
 #[inline(never)]
 fn measured_update(
     alloc: Global,
-    zone: &mut SqliteZoneHandler<NoKeys>,
+    zone: &mut UpdatableZoneHandler<NoKeys>,
     first: &[Record],
     second: &[Record],
     rounds: u64,
@@ -44,7 +48,7 @@ fn updated(alloc: Global, zone: &[u8], updates: &[u8], rounds: u64) -> Option<u6
 /// The same, of this zone.
 fn changed(
     alloc: Global,
-    zone: &mut SqliteZoneHandler<NoKeys>,
+    zone: &mut UpdatableZoneHandler<NoKeys>,
     updates: &[u8],
     rounds: u64,
 ) -> Option<u64> {

@@ -2,7 +2,7 @@
 
 use hickory_base::zone_store::{AxfrPolicy, InMemoryZoneHandler, RecordSet, ZoneType};
 use hickory_server::server::NoKeys;
-use hickory_store::sqlite::SqliteZoneHandler;
+use hickory_store::updates::UpdatableZoneHandler;
 use hickory_wire::{LowerName, Message, Record, RrKey};
 use hickory_zone::AuthoritativeZone;
 use std::alloc::Global;
@@ -152,9 +152,9 @@ fn answers_of(alloc: Global, bytes: &[u8]) -> Option<Vec<Record>> {
 pub(crate) fn updatable_zone(
     alloc: Global,
     bytes: &[u8],
-) -> Option<(LowerName, SqliteZoneHandler<NoKeys>)> {
+) -> Option<(LowerName, UpdatableZoneHandler<NoKeys>)> {
     let (origin, zone) = zone_of(alloc, answers_of(alloc, bytes)?)?;
-    let handler = SqliteZoneHandler::new(zone, AxfrPolicy::AllowAll, true, NoKeys);
+    let handler = UpdatableZoneHandler::new(zone, AxfrPolicy::AllowAll, true, NoKeys);
     Some((origin, handler))
 }
 

@@ -11,8 +11,8 @@ use Rattle.wire_messages.specs.declared.rr.tsig.TSigResponseKind.{TSigResponseKi
 use Rattle.wire_messages.specs.declared.rr.tsig.TSigResponseKind.TheVariants.{UnknownKey, BadSignature, Known}
 use Rattle.calling.specs.Hmac.{differences, hmac}
 
--- What a code is of, beside the message (RFC 8945 section 4.3.3): the name of the key, class ANY and TTL 0; the name of the algorithm; the
--- time with the fudge; and the error with other data. The names are in lower case.
+-- What a code is of, beside the message (RFC 8945 section 4.3.3): the name of the key, class ANY and TTL 0; the name of
+-- the algorithm; the time with the fudge; and the error with other data. The names are in lower case.
 abbrev pub variables : DomainName → DomainName → List ℕ → List ℕ → List ℕ
 variables key algorithm time others =
     wire_form key.labels ++ (0 ∷ 0 ∷ 255 ∷ 0 ∷ 0 ∷ 0 ∷ 0 ∷ []) ++ wire_form algorithm.labels ++ (0 ∷ []) ++ time ++ others
@@ -28,7 +28,8 @@ error_of (Known mac (Some error)) = 18
 abbrev pub time_octets : ℕ → List ℕ
 time_octets now = drop 2 (to_be_bytes w64 now) ++ to_be_bytes w16 300
 
--- what the code of a reply is of (RFC 8945 section 5.3): the request's code behind its length, the reply, and the variables
+-- what the code of a reply is of (RFC 8945 section 5.3): the request's code behind its length, the reply, and the
+-- variables
 abbrev pub reply_text : DomainName → DomainName → List ℕ → ℕ → ℕ → List ℕ → List ℕ
 reply_text key algorithm mac now error reply =
     to_be_bytes w16 (length mac % 2 ^ 16) ++ mac ++ reply ++ variables key algorithm (time_octets now) (to_be_bytes w16 error ++ 0 ∷ 0 ∷ [])
@@ -49,12 +50,14 @@ record_with algorithm context mac = record {
   proof = Indeterminate;
 }
 
--- the last fields of a request's TSIG record, which is its last, with a code of 32 octets and no other data: the time in 6 octets, the fudge
--- in 2, the size of the code in 2, the code in 32, the id in 2, the error in 2, the length of other data in 2
+-- the last fields of a request's TSIG record, which is its last, with a code of 32 octets and no other data: the time
+-- in 6 octets, the fudge in 2, the size of the code in 2, the code in 32, the id in 2, the error in 2, the length of
+-- other data in 2
 abbrev pub fields : List ℕ → List ℕ
 fields message = slice_range message (length message - 48) (length message)
 
--- how many octets that record has (RFC 8945 section 4.2): two names with their end octets, type, class, TTL and length in 10, and the fields
+-- how many octets that record has (RFC 8945 section 4.2): two names with their end octets, type, class, TTL and length
+-- in 10, and the fields
 abbrev pub record_len : DomainName → DomainName → ℕ
 record_len key algorithm = length (wire_form key.labels) + length (wire_form algorithm.labels) + 60
 

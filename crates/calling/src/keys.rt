@@ -50,7 +50,8 @@ fn error_of(kind: &TSigResponseKind) -> u16
     }
 }
 
-/// The moment that a request's signature tells, with the seconds around it at which it is good (RFC 8945 section 5.2.3).
+/// The moment that a request's signature tells, with the seconds around it at which it is good (RFC 8945 section
+/// 5.2.3).
 fn times_of(fields: &[u8]) -> Range<u64>
     requires { 8 ≤ length fields.now }
     ensures { result ≡ times_of fields.now }
@@ -86,7 +87,8 @@ impl OneKey {
         time: &[u8],
         others: &[u8],
     ) -> Result<(), AllocError>
-        ensures { OnOk result (text.new.items ≡ text.old.items ++ variables self.now.name self.now.algorithm time.now others.now) }
+        ensures { OnOk result (text.new.items ≡ text.old.items ++ variables self.now.name self.now.algorithm time.now
+            others.now) }
     {
         text.extend_from_slice(self.name.as_name().as_wire())?;
         text.extend_from_slice(b"\x00\x00\xff\x00\x00\x00\x00")?;
@@ -105,7 +107,8 @@ impl OneKey {
         error: u16,
         reply: &[u8],
     ) -> Result<Vec<u8>, AllocError>
-        ensures { IfOk result (λ text. text.items ≡ reply_text self.now.name self.now.algorithm mac.now now error reply.now) }
+        ensures { IfOk result (λ text. text.items ≡ reply_text self.now.name self.now.algorithm mac.now now error
+            reply.now) }
     {
         let mut text = Vec::from_slice(alloc, &((mac.len() % 0x1_0000) as u16).to_be_bytes())?;
         text.extend_from_slice(mac)?;
@@ -125,7 +128,8 @@ impl OneKey {
         context: &TSigResponseContext,
         reply: &[u8],
     ) -> Result<Octets, AllocError>
-        ensures { IfOk result (λ mac. mac ≡ reply_mac self.now.name self.now.algorithm self.now.block context.entry.now.kind context.entry.now.now reply.now) }
+        ensures { IfOk result (λ mac. mac ≡ reply_mac self.now.name self.now.algorithm self.now.block
+            context.entry.now.kind context.entry.now.now reply.now) }
     {
         let TSigResponseKind::Known { mac, .. } = &context.kind else {
             return Octets::from_slice(alloc, b"");
@@ -142,7 +146,9 @@ impl OneKey {
         context: &TSigResponseContext,
         reply: &[u8],
     ) -> Result<Record<TSIG>, AllocError>
-        ensures { IfOk result (λ made. made ≡ record_with self.now.algorithm context.entry.now (reply_mac self.now.name self.now.algorithm self.now.block context.entry.now.kind context.entry.now.now reply.now)) }
+        ensures { IfOk result (λ made. made ≡ record_with self.now.algorithm context.entry.now
+            (reply_mac self.now.name self.now.algorithm self.now.block context.entry.now.kind context.entry.now.now
+            reply.now)) }
     {
         let rdata = TSIG {
             algorithm: self.algorithm.as_name().clone()?,
@@ -193,7 +199,9 @@ impl OneKey {
 }
 
 impl ReplySigner for OneKey {
-    ghost signature_for = { λ key context reply. Some (record_with key.algorithm context (reply_mac key.name key.algorithm key.block context.kind context.now reply)) };
+    ghost signature_for = { λ key context reply.
+        Some (record_with key.algorithm context
+        (reply_mac key.name key.algorithm key.block context.kind context.now reply)) };
 
     fn sign(
         &self,

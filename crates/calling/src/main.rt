@@ -1,5 +1,5 @@
-//! Callers of the library, one module for each thing that a program does with it. The program runs each and prints what came of it;
-//! `docs/CALLING.md` quotes them.
+//! Callers of the library, one module for each thing that a program does with it. The program runs each and prints what
+//! came of it; `docs/CALLING.md` quotes them.
 #![tactic(auto)]
 
 mod blocking;
@@ -46,7 +46,8 @@ www  A   192.0.2.1
 const QUERY: [u8; 33] =
     *b"\x12\x34\x01\x00\x00\x01\x00\x00\x00\x00\x00\x00\x03www\x07example\x03com\x00\x00\x01\x00\x01";
 
-/// An update of example.com that adds new.example.com, signed by the key key.example. at 1,700,000,000 seconds (RFC 8945 section 5.1).
+/// An update of example.com that adds new.example.com, signed by the key key.example. at 1,700,000,000 seconds (RFC
+/// 8945 section 5.1).
 const UPDATE: [u8; 133] = *b"\
     \x124(\x00\x00\x01\x00\x00\x00\x01\x00\x01\
     \x07example\x03com\x00\x00\x06\x00\x01\

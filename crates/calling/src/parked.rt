@@ -82,7 +82,8 @@ impl ZoneHandler for Parked {
 
     ghost lookup_gives = { λ parked name record_type _ _ answer. IsParked parked.address name record_type answer };
 
-    ghost search_gives = { λ parked request _ answer context. IsParkedFor parked.address (one_query request.message.queries.queries) answer × (context ≡ None) };
+    ghost search_gives = { λ parked request _ answer context.
+        IsParkedFor parked.address (one_query request.message.queries.queries) answer × (context ≡ None) };
 
     ghost consult_gives = { λ _ _ _ _ _ last answer context. (answer ≡ last) × (context ≡ None) };
 
@@ -92,7 +93,8 @@ impl ZoneHandler for Parked {
 
     ghost nsec3_gives = { λ _ _ _ answer. answer ≡ Skip };
 
-    ghost update_gives = { λ parked _ _ answer context new. (answer ≡ Err (update_fault.Code 4)) × (context ≡ None) × (new ≡ parked) };
+    ghost update_gives = { λ parked _ _ answer context new. (answer ≡ Err (update_fault.Code 4)) × (context ≡ None) ×
+        (new ≡ parked) };
 
     fn zone_type(&self) -> ZoneType {
         ZoneType::Primary

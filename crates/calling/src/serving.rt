@@ -1,8 +1,8 @@
 //! Serving one message.
 
 ghost use Rattle.std.specs.Prelude.{◌≡◌, ◌↔◌, IfNone, IfOk, IfSome, IsNone, IsTrue};
-ghost use Rattle.hickory_catalog.specs.Server.{server_of};
-ghost use Rattle.hickory_server.specs.Serving.{Step};
+ghost use Rattle.hickory_catalog.specs.requests.Server.{server_of};
+ghost use Rattle.hickory_server.specs.server.Serving.{Step};
 ghost use Rattle.calling.specs.Serving.{IsResponse};
 
 use crate::fault::Fault;
@@ -37,7 +37,8 @@ fn is_response(bytes: &[u8]) -> bool
     }
 }
 
-/// What becomes of a datagram, or nothing where it is a response: two servers that answer responses would answer each other for ever.
+/// What becomes of a datagram, or nothing where it is a response: two servers that answer responses would answer each
+/// other for ever.
 pub fn serve_datagram<S: ReplySigner, H: ZoneHandler>(
     alloc: Global,
     access: &AccessControl,
@@ -47,7 +48,8 @@ pub fn serve_datagram<S: ReplySigner, H: ZoneHandler>(
     ensures served { IfOk result (λ told. IfSome told (λ outcome.
         Step access.now (server_of H.ZoneHandler S.signature_for catalog.old) message outcome catalog.new.zones)) }
     ensures dropped { IfOk result (λ told. IsResponse message.bytes.items → IsNone told) }
-    ensures untouched { IfOk result (λ told. IfNone told (IsResponse message.bytes.items × (catalog.new ≡ catalog.old))) }
+    ensures untouched { IfOk result
+        (λ told. IfNone told (IsResponse message.bytes.items × (catalog.new ≡ catalog.old))) }
 {
     if is_response(&message.bytes) {
         return Ok(None);

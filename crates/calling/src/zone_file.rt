@@ -3,7 +3,7 @@
 ghost use Rattle.std.specs.Prelude.{IfOk};
 ghost use Rattle.hickory_base.specs.declared.zone_store.handler.AxfrPolicy.TheVariants.{Deny};
 ghost use Rattle.hickory_base.specs.declared.zone_store.handler.ZoneType.TheVariants.{Primary};
-ghost use Rattle.hickory_server.specs.ZoneOfText.{IsZoneOfText};
+ghost use Rattle.hickory_server.specs.store.ZoneOfText.{IsZoneOfText};
 
 use hickory_server::proto::Name;
 use hickory_server::store::file::{ZoneError, read_zone};

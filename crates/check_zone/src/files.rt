@@ -56,7 +56,8 @@ pub fn read_bytes<R: Files + Alloc<A = Global>>(rt: &R, file: &str) -> Result<Ve
     }
 }
 
-/// The files of the system, by their paths; those that do not begin with `/` are below the folder that the program runs in.
+/// The files of the system, by their paths; those that do not begin with `/` are below the folder that the program runs
+/// in.
 #[derive(Drop)]
 pub struct SystemFiles<'a, R> {
     rt: &'a R,

@@ -51,7 +51,8 @@ impl Told<'_> {
     }
 }
 
-/// The line of a finding of a record, the one of this number, from 0 on, which is told by its place, its name and its type.
+/// The line of a finding of a record, the one of this number, from 0 on, which is told by its place, its name and its
+/// type.
 fn line_of_record(
     alloc: Global,
     told: &Told<'_>,
@@ -89,7 +90,8 @@ fn line_of(alloc: Global, told: &Told<'_>, finding: Finding) -> Result<String, A
     format!(in alloc; "{}: {}: {word}: {}", told.file, told.origin, finding.kind)
 }
 
-/// Prints a line for each finding, in their order: on the standard error where the records stand on the standard output.
+/// Prints a line for each finding, in their order: on the standard error where the records stand on the standard
+/// output.
 pub fn tell_findings<R: Print + Eprint + Alloc<A = Global>>(
     rt: &R,
     told: &Told<'_>,

@@ -1,8 +1,10 @@
-//! What is found of a zone file before it is served: `check_zone ORIGIN FILE [--previous FILE] [--print]` prints a line for each finding on the
-//! standard output; under `--print` there the records, each as a line, and the findings on the standard error. `check_zone --version` prints its name and version, and `check_zone --help` how it is started.
+//! What is found of a zone file before it is served: `check_zone ORIGIN FILE [--previous FILE] [--print]` prints a line
+//! for each finding on the standard output; under `--print` there the records, each as a line, and the findings on the
+//! standard error. `check_zone --version` prints its name and version, and `check_zone --help` how it is started.
 //!
-//! The status is 0 where nothing is found, 1 where all that is found are warnings, 2 for wrong arguments, 3 without memory, 4 where the output
-//! fails, and 5 where a fault is found or a file is not taken, which is told on the standard error.
+//! The status is 0 where nothing is found, 1 where all that is found are warnings, 2 for wrong arguments, 3 without
+//! memory, 4 where the output fails, and 5 where a fault is found or a file is not taken, which is told on the standard
+//! error.
 #![tactic(auto)]
 
 mod fault;
@@ -125,7 +127,8 @@ fn is_inclusion(error: &ZoneFileError) -> bool {
     )
 }
 
-/// Tells the faults of a zone file on the standard error, up to ten, or of one that includes others the first one, and gives the status.
+/// Tells the faults of a zone file on the standard error, up to ten, or of one that includes others the first one, and
+/// gives the status.
 fn tell_of_entries<R: Eprint + Alloc<A = Global>>(
     rt: &R,
     origin: &Name,

@@ -1,6 +1,7 @@
 //! Where the records of a zone file stand, and those of the files that it includes.
 //!
-//! A file that was read is walked through once more, entry by entry: that each has so many records as are counted here is known since it was read.
+//! A file that was read is walked through once more, entry by entry: that each has so many records as are counted here
+//! is known since it was read.
 
 ghost use Rattle.std.specs.Prelude.{◌≤◌, ◌<◌, IfOk, IfSome, length};
 

@@ -9,14 +9,14 @@ use Rattle.hickory_base.specs.requests.Updates.{update_of}
 use Rattle.hickory_base.specs.zone_store.ZoneAnswers.{MemoryZone}
 use Rattle.hickory_base.specs.zone_store.ZoneSets.{zone_records}
 use Rattle.hickory_base.specs.declared.errors.UpdateFault.{UpdateFault}
-use Rattle.hickory_store.specs.Permission.{update_permission}
-use Rattle.hickory_store.specs.Prerequisites.{prerequisites_refusal}
-use Rattle.hickory_store.specs.Prescan.{prescan_refusal}
-use Rattle.hickory_store.specs.UpdatableZone.{UpdatableZone}
-use Rattle.hickory_store.specs.UpdateAnswers.{AnswersUpdate, IsOutcome, Outcome, applied, unless_refused}
-use Rattle.hickory_store.specs.declared.sqlite.verifier.Verifier.{Ghosts}
-use Rattle.durable_updates.specs.Batches.{AnswersEach, AnswersRead, Told, accepted, bytes_of, if_accepted}
-use Rattle.durable_updates.specs.DurableUpdates.{AnswersDurably}
+use Rattle.hickory_store.specs.updates.Permission.{update_permission}
+use Rattle.hickory_store.specs.updates.Prerequisites.{prerequisites_refusal}
+use Rattle.hickory_store.specs.updates.Prescan.{prescan_refusal}
+use Rattle.hickory_store.specs.updates.UpdatableZone.{UpdatableZone}
+use Rattle.hickory_store.specs.updates.UpdateAnswers.{AnswersUpdate, IsOutcome, Outcome, applied, unless_refused}
+use Rattle.hickory_store.specs.declared.updates.verifier.Verifier.{Ghosts}
+use Rattle.durable_updates.specs.Batches.{AnswersEach, AnswersRead, accepted, bytes_of, if_accepted}
+use Rattle.durable_updates.specs.DurableUpdates.{AnswersDurably, Told}
 use Rattle.durable_updates.specs.ReadRequests.{AreRead, IsRead}
 use Rattle.durable_updates.specs.Redone.{Leaves, Makes, Redone}
 use Rattle.hickory_base.specs.declared.errors.UpdateFault.TheVariants.{Code}
@@ -33,26 +33,26 @@ leaves (Ok outcome) changed old new is rest = (is.0, rest)
 leaves (Err code) changed old new is rest = absurd is
 
 module _ {V : Type 0} (by : Ghosts V) where
-  makes : (r : ReceivedRequest) (now : ℕ) (changed : Bool) (context : Option TSigResponseContext) (old new : UpdatableZone V) → AnswersUpdate by old r now (Ok changed) context new → Makes (update_of r.message).updates old.zone new.zone
+  makes : (r : ReceivedRequest) (now : ℕ) (changed : Bool) (context : Option TSigResponseContext) (old new : UpdatableZone V) → AnswersUpdate by old (r, now) (Ok changed) context new → Makes (update_of r.message).updates old.zone new.zone
   makes r now changed context old new answers =
       let updates : List (Record RData) = (update_of r.message).updates in
-      let o : Outcome = applied old.zone.origin 1 (zone_records old.zone.sets) (update_of r.message).updates true in
+      let o : Outcome = applied old.zone.origin (zone_records old.zone.sets) (update_of r.message).updates true in
       let is = none_refused (update_permission by old.verifier old.allow_update r now).refusal
-      (prerequisites_refusal old.zone.origin 1 (zone_records old.zone.sets) (update_of r.message).prerequisites)
-      (prescan_refusal old.zone.origin 1 (update_of r.message).updates)
-      (applied old.zone.origin 1 (zone_records old.zone.sets) (update_of r.message).updates true) (zone_records new.zone.sets) changed answers.0.0 in
-      record { accepted = is.0; done = leaves (applied old.zone.origin 1 (zone_records old.zone.sets) (update_of r.message).updates true) changed old.zone new.zone is.1 answers.0.1 }
+      (prerequisites_refusal old.zone.origin (zone_records old.zone.sets) (update_of r.message).prerequisites)
+      (prescan_refusal old.zone.origin (update_of r.message).updates)
+      (applied old.zone.origin (zone_records old.zone.sets) (update_of r.message).updates true) (zone_records new.zone.sets) changed answers.0.0 in
+      record { accepted = is.0; done = leaves (applied old.zone.origin (zone_records old.zone.sets) (update_of r.message).updates true) changed old.zone new.zone is.1 answers.0.1 }
 
   one_redone : (r : ReceivedRequest) (now : ℕ) (answer : Result Bool UpdateFault) (context : Option TSigResponseContext) (others : List ReceivedRequest) (old between new : UpdatableZone V)
-      → AnswersRead by old r now answer context between → Redone (bytes_of others) between.zone new.zone → Redone (bytes_of (if_accepted answer r others)) old.zone new.zone
+      → AnswersRead by old (r, now) (answer, context) between → Redone (bytes_of others) between.zone new.zone → Redone (bytes_of (if_accepted answer r others)) old.zone new.zone
   one_redone r now (Ok changed) context others old between new answers rest = by_kind answers.0
     where
-      by_kind : AnswersDurably (r.was_read ≡ false) by old r now (Ok changed) context between → Redone (bytes_of (r ∷ others)) old.zone new.zone
+      by_kind : AnswersDurably (r.was_read ≡ false) by old (r, now) (Ok changed, context) between → Redone (bytes_of (r ∷ others)) old.zone new.zone
       by_kind (inl update) = (between.zone, record { message = message_of r.message; reads = answers.1; made = makes r now changed context old between update }, rest)
       by_kind (inr unwritten) = absurd (let ends : Ok changed ≡ Err (Code 2) = unwritten.0 in cc)
   one_redone r now (Err fault) context others old between new answers rest = subst (λ (z : MemoryZone). Redone (bytes_of others) z new.zone) (same answers.0) rest
     where
-      same : AnswersDurably (r.was_read ≡ false) by old r now (Err fault) context between → between.zone ≡ old.zone
+      same : AnswersDurably (r.was_read ≡ false) by old (r, now) (Err fault, context) between → between.zone ≡ old.zone
       same (inl update) = update.0.1
       same (inr unwritten) = ap (λ (z : UpdatableZone V). z.zone) unwritten.1
 

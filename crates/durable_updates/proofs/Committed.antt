@@ -6,13 +6,13 @@ use Rattle.wire_messages.specs.declared.rr.rr_key.RrKey.{RrKey}
 use Rattle.hickory_base.specs.requests.Requests.{ReceivedRequest}
 use Rattle.hickory_base.specs.zone_store.ZoneAnswers.{MemoryZone}
 use Rattle.hickory_base.specs.declared.errors.UpdateFault.{UpdateFault}
-use Rattle.hickory_store.specs.UpdatableZone.{UpdatableZone}
-use Rattle.hickory_store.specs.declared.sqlite.verifier.Verifier.{Ghosts}
+use Rattle.hickory_store.specs.updates.UpdatableZone.{UpdatableZone}
+use Rattle.hickory_store.specs.declared.updates.verifier.Verifier.{Ghosts}
 use Rattle.sqlite_disk.specs.declared.Disk.{Ghosts as DiskGhosts}
 use Rattle.update_journal.specs.JournalState.{JournalState}
-use Rattle.durable_updates.specs.Batches.{AnswersBatch, AnswersEach, EndsAs, Told, accepted, bytes_of}
+use Rattle.durable_updates.specs.Batches.{AnswersBatch, AnswersEach, EndsAs, accepted, bytes_of}
 use Rattle.durable_updates.specs.Commits.{Commits, IsToldAs}
-use Rattle.durable_updates.specs.DurableUpdates.{IsWriteFault}
+use Rattle.durable_updates.specs.DurableUpdates.{IsWriteFault, Told}
 use Rattle.durable_updates.specs.Journalling.{JournalsAll, RefusesEntries}
 use Rattle.durable_updates.specs.Runs.{Life, Server, ServesAll, after_answer}
 use Rattle.durable_updates.proofs.Histories.{InStep, all_on}

@@ -4,9 +4,9 @@ use Rattle.std.proofs.lemmas.Bool.{cases_lt}
 use Rattle.std.proofs.lemmas.List.{append-nil}
 use Rattle.hickory_base.specs.requests.Requests.{ReceivedRequest}
 use Rattle.hickory_base.specs.zone_store.ZoneAnswers.{MemoryZone}
-use Rattle.hickory_store.specs.UpdateLaws.{HasOneSoa, HoldsIn}
-use Rattle.hickory_store.proofs.ApexNs.{OfOneType}
-use Rattle.hickory_store.proofs.SameZones.{Identity}
+use Rattle.hickory_store.specs.updates.UpdateLaws.{HasOneSoa, HoldsIn}
+use Rattle.hickory_store.proofs.lemmas.updates.ApexNs.{OfOneType}
+use Rattle.hickory_store.proofs.lemmas.updates.SameZones.{Identity}
 use Rattle.sqlite_disk.specs.declared.Disk.{Ghosts as DiskGhosts}
 use Rattle.update_journal.specs.Generations.{IsBeingReplaced, StandFor, generation_of, header}
 use Rattle.update_journal.specs.JournalState.{JournalState}

@@ -3,21 +3,21 @@ use Rattle.std.proofs.Common.{◌≡◌, ◌∙◌, ℕ, List, [], ◌∷◌, �
 use Rattle.wire_messages.specs.declared.rr.tsig.TSigResponseContext.{TSigResponseContext}
 use Rattle.hickory_base.specs.requests.Requests.{ReceivedRequest}
 use Rattle.hickory_base.specs.declared.errors.UpdateFault.{UpdateFault}
-use Rattle.hickory_store.specs.UpdatableZone.{UpdatableZone}
-use Rattle.hickory_store.specs.declared.sqlite.verifier.Verifier.{Ghosts}
+use Rattle.hickory_store.specs.updates.UpdatableZone.{UpdatableZone}
+use Rattle.hickory_store.specs.declared.updates.verifier.Verifier.{Ghosts}
 use Rattle.sqlite_disk.specs.declared.Disk.{Ghosts as DiskGhosts}
-use Rattle.durable_updates.specs.Batches.{AnswersEach, AnswersRead, Told, accepted, bytes_of, if_accepted}
-use Rattle.durable_updates.specs.DurableUpdates.{IsWriteFault}
+use Rattle.durable_updates.specs.Batches.{AnswersEach, AnswersRead, accepted, bytes_of, if_accepted}
+use Rattle.durable_updates.specs.DurableUpdates.{IsWriteFault, Told}
 use Rattle.durable_updates.specs.Held.{AreHeld, HeldAreABatch, UnwrittenAreABatch, more, none}
 use Rattle.durable_updates.specs.Journalling.{JournalsAll, RefusesEntries}
 
 module _ {V : Type 0} (by : Ghosts V) where
   -- one more is answered
   each_more : (requests : List (ReceivedRequest × ℕ)) (told : List Told) (first old new : UpdatableZone V) (request : ReceivedRequest) (now : ℕ) (answer : Result Bool UpdateFault) (context : Option TSigResponseContext)
-      → AnswersEach by requests told first old → AnswersRead by old request now answer context new
+      → AnswersEach by requests told first old → AnswersRead by old (request, now) (answer, context) new
       → AnswersEach by (requests ++ (request, now) ∷ []) (told ++ (answer, context) ∷ []) first new
   each_more [] [] first old new request now answer context each one =
-      (new, subst (λ (z : UpdatableZone V). AnswersRead by z request now answer context new) each one, refl)
+      (new, subst (λ (z : UpdatableZone V). AnswersRead by z (request, now) (answer, context) new) each one, refl)
   each_more [] (t ∷ told) first old new request now answer context each one = absurd each
   each_more (r ∷ requests) [] first old new request now answer context each one = absurd each
   each_more (r ∷ requests) (t ∷ told) first old new request now answer context each one =

@@ -6,8 +6,8 @@ use Rattle.wire_messages.specs.declared.rr.tsig.TSigResponseContext.{TSigRespons
 use Rattle.hickory_base.specs.requests.Requests.{ReceivedRequest}
 use Rattle.hickory_base.specs.zone_store.ZoneAnswers.{MemoryZone}
 use Rattle.hickory_base.specs.declared.errors.UpdateFault.{UpdateFault}
-use Rattle.hickory_store.specs.UpdatableZone.{UpdatableZone}
-use Rattle.hickory_store.specs.declared.sqlite.verifier.Verifier.{Ghosts}
+use Rattle.hickory_store.specs.updates.UpdatableZone.{UpdatableZone}
+use Rattle.hickory_store.specs.declared.updates.verifier.Verifier.{Ghosts}
 use Rattle.sqlite_disk.specs.declared.Disk.{Ghosts as DiskGhosts}
 use Rattle.update_journal.specs.JournalState.{JournalState}
 use Rattle.durable_updates.specs.Batches.{AnswersRead, bytes_of, if_accepted}
@@ -33,7 +33,7 @@ module _ {D : Type 0} (disks : DiskGhosts D) where
 module _ {V D : Type 0} (by : Ghosts V) (disks : DiskGhosts D) where
   -- one update more
   pub more_held : (r : ReceivedRequest) (now : ℕ) (answer : Result Bool UpdateFault) (context : Option TSigResponseContext) (old new : UpdatableZone V) (journal : JournalState D) (before after : List (List ℕ))
-      → AnswersRead by old r now answer context new → after ≡ before ++ bytes_of (if_accepted answer r []) → IsAhead disks old.zone journal before → IsAhead disks new.zone journal after
+      → AnswersRead by old (r, now) (answer, context) new → after ≡ before ++ bytes_of (if_accepted answer r []) → IsAhead disks old.zone journal before → IsAhead disks new.zone journal after
   more_held r now answer context old new journal before after answers is ahead =
       let added : List ReceivedRequest = if_accepted answer r [] in
       let bytes : bytes_of (ahead.requests ++ added) ≡ bytes_of ahead.requests ++ bytes_of added = bytes_more [] ahead.requests added in

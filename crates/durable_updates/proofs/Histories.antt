@@ -6,8 +6,8 @@ use Rattle.hickory_base.specs.requests.Requests.{ReceivedRequest}
 use Rattle.hickory_base.specs.requests.RequestReading.{message_of}
 use Rattle.hickory_base.specs.zone_store.ZoneAnswers.{MemoryZone}
 use Rattle.hickory_base.specs.declared.errors.UpdateFault.{UpdateFault}
-use Rattle.hickory_store.specs.UpdatableZone.{UpdatableZone}
-use Rattle.hickory_store.specs.declared.sqlite.verifier.Verifier.{Ghosts}
+use Rattle.hickory_store.specs.updates.UpdatableZone.{UpdatableZone}
+use Rattle.hickory_store.specs.declared.updates.verifier.Verifier.{Ghosts}
 use Rattle.sqlite_disk.specs.declared.Disk.{Ghosts as DiskGhosts}
 use Rattle.update_journal.specs.Frames.{IsBeforeOrAfter, StandsFor, ended}
 use Rattle.update_journal.specs.JournalState.{JournalState}
@@ -15,7 +15,8 @@ use Rattle.update_journal.specs.Read.{contents}
 use Rattle.update_journal.specs.Settled.{IsSettled}
 use Rattle.update_journal.proofs.Steps.{rests}
 use Rattle.update_journal.proofs.Recovery.{unique}
-use Rattle.durable_updates.specs.Batches.{EndsAs, Told, accepted, bytes_of}
+use Rattle.durable_updates.specs.Batches.{EndsAs, accepted, bytes_of}
+use Rattle.durable_updates.specs.DurableUpdates.{Told}
 use Rattle.durable_updates.specs.Journalling.{JournalsAll}
 use Rattle.durable_updates.specs.Recorded.{IsFailed, IsOpen, IsRecorded}
 use Rattle.durable_updates.specs.ReadRequests.{AreRead, those_read}

@@ -13,11 +13,11 @@ use Rattle.hickory_base.specs.zone_store.ZoneAnswers.{MemoryZone}
 use Rattle.hickory_base.specs.zone_store.ZoneSets.{shared_sets}
 use Rattle.hickory_base.specs.declared.zone_store.record_set.RecordSet.{RecordSet}
 use Rattle.hickory_base.specs.declared.errors.UpdateFault.{UpdateFault}
-use Rattle.hickory_store.specs.UpdatableZone.{UpdatableZone}
-use Rattle.hickory_store.specs.UpdateAnswers.{AnswersUpdate}
-use Rattle.hickory_store.specs.declared.sqlite.verifier.Verifier.{Ghosts}
-use Rattle.durable_updates.specs.Batches.{AnswersBatch, AnswersEach, AnswersRead, Told, accepted, bytes_of, if_accepted}
-use Rattle.durable_updates.specs.DurableUpdates.{IsWriteFault}
+use Rattle.hickory_store.specs.updates.UpdatableZone.{UpdatableZone}
+use Rattle.hickory_store.specs.updates.UpdateAnswers.{AnswersUpdate}
+use Rattle.hickory_store.specs.declared.updates.verifier.Verifier.{Ghosts}
+use Rattle.durable_updates.specs.Batches.{AnswersBatch, AnswersEach, AnswersRead, accepted, bytes_of, if_accepted}
+use Rattle.durable_updates.specs.DurableUpdates.{IsWriteFault, Told}
 
 one_before : (r : ReceivedRequest) (answer : Result Bool UpdateFault) (others : List ReceivedRequest) → bytes_of (if_accepted answer r others) ≡ bytes_of (if_accepted answer r []) ++ bytes_of others
 one_before r (Ok changed) others = refl
@@ -44,7 +44,7 @@ for_any_reason Reason by requests told old new answers = record {
 abbrev pub KeepsOthers : {V : Type 0} → UpdatableZone V → UpdatableZone V → Type 0
 KeepsOthers old new = new ≡ record old { zone = record old.zone { sets = new.zone.sets } }
 
-pub one_keeps : {V : Type 0} (by : Ghosts V) (r : ReceivedRequest) (now : ℕ) (answer : Result Bool UpdateFault) (context : Option TSigResponseContext) (old new : UpdatableZone V) → AnswersUpdate by old r now answer context new → KeepsOthers old new
+pub one_keeps : {V : Type 0} (by : Ghosts V) (r : ReceivedRequest) (now : ℕ) (answer : Result Bool UpdateFault) (context : Option TSigResponseContext) (old new : UpdatableZone V) → AnswersUpdate by old (r, now) answer context new → KeepsOthers old new
 one_keeps {V} by r now (Ok changed) context old new answers = answers.2 ∙ ap (λ (z : MemoryZone). record old { zone = z }) answers.0.1
 one_keeps {V} by r now (Err fault) context old new answers = answers.2 ∙ ap (λ (z : MemoryZone). record old { zone = z }) (answers.0.1 ∙ ap (λ (z : MemoryZone). record old.zone { sets = z.sets }) (sym answers.0.1))
 
@@ -60,7 +60,7 @@ module _ {V : Type 0} (by : Ghosts V) (all rest : List (ReceivedRequest × ℕ))
   one_told is told = ap (λ (l : List Told). l ++ told) is ∙ append_assoc before (t ∷ []) told
 
   pub leads_more : (first now next : UpdatableZone V) → ((told : List Told) (new : UpdatableZone V) → AnswersEach by (r ∷ rest) told now new → AnswersEach by all (before ++ told) first new)
-      → AnswersRead by now r.0 r.1 t.0 t.1 next → after ≡ before ++ t ∷ [] → (told : List Told) (new : UpdatableZone V) → AnswersEach by rest told next new → AnswersEach by all (after ++ told) first new
+      → AnswersRead by now r t next → after ≡ before ++ t ∷ [] → (told : List Told) (new : UpdatableZone V) → AnswersEach by rest told next new → AnswersEach by all (after ++ told) first new
   leads_more first now next leads one is told new each = subst (λ (l : List Told). AnswersEach by all l first new) (sym (one_told is told)) (leads (t ∷ told) new (next, one, each))
 
   pub written_more : (entries more : List (List ℕ)) → ((told : List Told) → entries ++ bytes_of (accepted (r ∷ rest) told) ≡ bytes_of (accepted all (before ++ told)))

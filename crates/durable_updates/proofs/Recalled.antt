@@ -18,15 +18,15 @@ use Rattle.hickory_base.specs.zone_store.ZoneAnswers.{MemoryZone}
 use Rattle.hickory_base.specs.zone_store.ZoneRecords.{is_at, is_of, rrset}
 use Rattle.wire_messages.specs.declared.rr.rr_key.RrKey.{RrKey}
 use Rattle.hickory_base.specs.zone_store.ZoneSets.{AreSetsInOrder, IsZone, zone_records}
-use Rattle.hickory_store.specs.ZoneSets.{HoldsSets}
-use Rattle.hickory_store.proofs.OneSoa.{one_soa_same}
-use Rattle.hickory_store.proofs.SetsOfRecords.{same_of}
-use Rattle.hickory_store.specs.FirstRecords.{first_records, keep_first}
-use Rattle.hickory_store.specs.Identity.{SameZone, same_record, ttl_at}
-use Rattle.hickory_store.specs.UpdateAnswers.{is_apex_soa}
-use Rattle.hickory_store.specs.UpdateLaws.{HasOneSoa, HoldsIn}
-use Rattle.hickory_store.proofs.ApexNs.{OfOneType, Records, Resource}
-use Rattle.hickory_store.proofs.SameZones.{Identity, passes, same_itself, same_respects, some_ttl, ttl_append}
+use Rattle.hickory_store.specs.representation.ZoneSets.{HoldsSets}
+use Rattle.hickory_store.proofs.lemmas.updates.OneSoa.{one_soa_same}
+use Rattle.hickory_store.proofs.lemmas.file.SetsOfRecords.{same_of}
+use Rattle.hickory_store.specs.file.FirstRecords.{first_records, keep_first}
+use Rattle.hickory_store.specs.updates.Identity.{SameZone, same_record, ttl_at}
+use Rattle.hickory_store.specs.updates.UpdateAnswers.{is_apex_soa}
+use Rattle.hickory_store.specs.updates.UpdateLaws.{HasOneSoa, HoldsIn}
+use Rattle.hickory_store.proofs.lemmas.updates.ApexNs.{OfOneType, Records, Resource}
+use Rattle.hickory_store.proofs.lemmas.updates.SameZones.{Identity, passes, same_itself, same_respects, some_ttl, ttl_append}
 use Rattle.update_journal.specs.Generations.{header as generation_header}
 use Rattle.durable_updates.specs.Compactions.{fresh}
 use Rattle.durable_updates.specs.Redone.{Redone}

@@ -11,14 +11,14 @@ use Rattle.wire_names.specs.declared.error.DecodeError.{DecodeError}
 use Rattle.hickory_base.specs.zone_store.ZoneAnswers.{MemoryZone}
 use Rattle.hickory_base.specs.zone_store.ZoneRecords.{is_at}
 use Rattle.hickory_base.specs.zone_store.ZoneSets.{zone_records}
-use Rattle.hickory_store.specs.Changes.{any_change, changes, comes, fold, goes_when, has_ttl, in_class, in_rrset, is_ignored, is_newer, is_spared, is_there, is_type, replaces_rrset, turn}
-use Rattle.hickory_store.specs.Identity.{SameZone, same_record, ttl_at}
-use Rattle.hickory_store.specs.UpdateAnswers.{Outcome, applied, incremented, is_apex_soa, with_next_serial}
-use Rattle.hickory_store.specs.UpdateLaws.{HasOneSoa, HoldsIn, IsOneSoa}
-use Rattle.hickory_store.proofs.ApexNs.{OfOneType, Records, Resource}
-use Rattle.hickory_store.proofs.OneSoa.{next_same, next_soa, one_fold, one_next, one_soa_same, only_soa, soa_respects}
-use Rattle.hickory_store.proofs.SameZones.{Identity, any_same, both_respect, fold_same, goes_respects, name_respects, newer_respects, not_respects, rrset_respects, same_respects, same_turned, same_via, some_ttl, type_respects}
-use Rattle.hickory_store.proofs.SerialSteps.{apex_next}
+use Rattle.hickory_store.specs.updates.Changes.{any_change, changes, is_added, after_updates, is_deleted_when, has_ttl, in_class, in_rrset, is_ignored, is_newer, is_spared, adds_nothing_new, is_type, replaces_rrset, after_record}
+use Rattle.hickory_store.specs.updates.Identity.{SameZone, same_record, ttl_at}
+use Rattle.hickory_store.specs.updates.UpdateAnswers.{Outcome, applied, incremented, is_apex_soa, with_next_serial}
+use Rattle.hickory_store.specs.updates.UpdateLaws.{HasOneSoa, HoldsIn, IsOneSoa}
+use Rattle.hickory_store.proofs.lemmas.updates.ApexNs.{OfOneType, Records, Resource}
+use Rattle.hickory_store.proofs.lemmas.updates.OneSoa.{next_same, next_soa, one_fold, one_next, one_soa_same, only_soa, soa_respects}
+use Rattle.hickory_store.proofs.lemmas.updates.SameZones.{Identity, any_same, both_respect, fold_same, goes_respects, name_respects, newer_respects, not_respects, rrset_respects, same_respects, same_turned, same_via, some_ttl, type_respects}
+use Rattle.hickory_store.proofs.lemmas.updates.SerialSteps.{apex_next}
 use Rattle.durable_updates.specs.Redone.{Leaves, Makes, Redone, RedoesOne}
 
 true_and_false : {P : Type 0} (b : Bool) → b ≡ true → b ≡ false → P
@@ -74,35 +74,35 @@ module _ (identity : Identity) (same_type : OfOneType) where
       ∙ ap (λ x. ignored_of (is_type 5 r) (is_type 6 r) (list_any beside w) (list_any cnames w) (list_any (in_rrset r) w) x)
       (any_same identity serials (both_respect (in_rrset r) (λ q. not (is_newer r.rdata q.rdata)) (rrset_respects identity r) (not_respects (λ q. is_newer r.rdata q.rdata) (newer_respects identity r.rdata))) z w h)
 
-  there_same : (z w : Records) (r : Resource) → SameZone z w → is_there z r ≡ is_there w r
+  there_same : (z w : Records) (r : Resource) → SameZone z w → adds_nothing_new z r ≡ adds_nothing_new w r
   there_same z w r h =
       ap (λ t. has_ttl r.ttl t && not (replaces_rrset r && list_any (λ q. in_rrset r q && not (same_record r q)) z)) (h r)
       ∙ ap (λ x. has_ttl r.ttl (ttl_at w r) && not (replaces_rrset r && x))
       (any_same identity (λ q. in_rrset r q && not (same_record r q)) (both_respect (in_rrset r) (λ q. not (same_record r q)) (rrset_respects identity r) (not_respects (same_record r) (same_respects identity r))) z w h)
 
-  comes_same : (c : ℕ) (z w : Records) (r : Resource) → SameZone z w → comes c z r ≡ comes c w r
-  comes_same c z w r h =
-      ap (λ x. (r.dns_class == c) && (not x && not (is_there z r))) (ignored_same z w r h) ∙ ap (λ x. (r.dns_class == c) && (not (is_ignored w r) && not x)) (there_same z w r h)
+  comes_same : (z w : Records) (r : Resource) → SameZone z w → is_added z r ≡ is_added w r
+  comes_same z w r h =
+      ap (λ x. (r.dns_class == 1) && (not x && not (adds_nothing_new z r))) (ignored_same z w r h) ∙ ap (λ x. (r.dns_class == 1) && (not (is_ignored w r) && not x)) (there_same z w r h)
 
-  spared_same : (c : ℕ) (z w : Records) (r : Resource) → SameZone z w → is_spared c z r ≡ is_spared c w r
-  spared_same c z w r h =
+  spared_same : (z w : Records) (r : Resource) → SameZone z w → is_spared z r ≡ is_spared w r
+  spared_same z w r h =
       ap (λ x. is_type 6 r || (is_type 2 r && not x))
-      (any_same identity (λ q. in_rrset r q && not (same_record (in_class c r) q)) (both_respect (in_rrset r) (λ q. not (same_record (in_class c r) q)) (rrset_respects identity r) (not_respects (same_record (in_class c r)) (same_respects identity (in_class c r)))) z w h)
+      (any_same identity (λ q. in_rrset r q && not (same_record (in_class r) q)) (both_respect (in_rrset r) (λ q. not (same_record (in_class r) q)) (rrset_respects identity r) (not_respects (same_record (in_class r)) (same_respects identity (in_class r)))) z w h)
 
   -- ---- whether an update changes the zone
 
-  changes_same : (o : DomainName) (c : ℕ) (z w : Records) (r : Resource) → SameZone z w → changes o c z r ≡ changes o c w r
+  changes_same : (o : DomainName) (z w : Records) (r : Resource) → SameZone z w → changes o z r ≡ changes o w r
   unfolding changes
-  changes_same o c z w r h =
-      ap (λ a. list_any (goes_when o c r a (is_spared c z r)) z || a) (comes_same c z w r h)
-      ∙ ap (λ b. list_any (goes_when o c r (comes c w r) b) z || comes c w r) (spared_same c z w r h)
-      ∙ ap (λ x. x || comes c w r) (any_same identity (goes_when o c r (comes c w r) (is_spared c w r)) (goes_respects identity o c r (comes c w r) (is_spared c w r)) z w h)
+  changes_same o z w r h =
+      ap (λ a. list_any (is_deleted_when o r a (is_spared z r)) z || a) (comes_same z w r h)
+      ∙ ap (λ b. list_any (is_deleted_when o r (is_added w r) b) z || is_added w r) (spared_same z w r h)
+      ∙ ap (λ x. x || is_added w r) (any_same identity (is_deleted_when o r (is_added w r) (is_spared w r)) (goes_respects identity o r (is_added w r) (is_spared w r)) z w h)
 
-  any_change_same : (o : DomainName) (c : ℕ) (rs z w : Records) → SameZone z w → any_change o c z rs ≡ any_change o c w rs
-  any_change_same o c [] z w h = refl
-  any_change_same o c (r ∷ rs) z w h =
-      ap (λ x. x || any_change o c (turn o c z r) rs) (changes_same o c z w r h)
-      ∙ ap (λ x. changes o c w r || x) (any_change_same o c rs (turn o c z r) (turn o c w r) (fold_same identity o c (r ∷ []) z w h))
+  any_change_same : (o : DomainName) (rs z w : Records) → SameZone z w → any_change o z rs ≡ any_change o w rs
+  any_change_same o [] z w h = refl
+  any_change_same o (r ∷ rs) z w h =
+      ap (λ x. x || any_change o (after_record o z r) rs) (changes_same o z w r h)
+      ∙ ap (λ x. changes o w r || x) (any_change_same o rs (after_record o z r) (after_record o w r) (fold_same identity o (r ∷ []) z w h))
 
   -- ---- the increment
 
@@ -175,17 +175,17 @@ module _ (identity : Identity) (same_type : OfOneType) where
   serial_outcome o z w false true e h same = absurd (cc)
 
   change_outcome : (o : DomainName) (rs z w : Records) (a b : Bool) → a ≡ b → HasOneSoa o z → SameZone z w
-      → SameOutcome (cond a (with_next_serial o (fold o 1 z rs)) (Ok (z, false))) (cond b (with_next_serial o (fold o 1 w rs)) (Ok (w, false)))
+      → SameOutcome (cond a (with_next_serial o (after_updates o z rs)) (Ok (z, false))) (cond b (with_next_serial o (after_updates o w rs)) (Ok (w, false)))
   change_outcome o rs z w true true e h same =
-      let after : SameZone (fold o 1 z rs) (fold o 1 w rs) = fold_same identity o 1 rs z w same in
-      serial_outcome o (fold o 1 z rs) (fold o 1 w rs) (list_any (is_apex_soa o) (fold o 1 z rs)) (list_any (is_apex_soa o) (fold o 1 w rs))
-      (any_same identity (is_apex_soa o) (soa_respects identity same_type o) (fold o 1 z rs) (fold o 1 w rs) after) (one_fold identity same_type o 1 rs z h) after
+      let after : SameZone (after_updates o z rs) (after_updates o w rs) = fold_same identity o rs z w same in
+      serial_outcome o (after_updates o z rs) (after_updates o w rs) (list_any (is_apex_soa o) (after_updates o z rs)) (list_any (is_apex_soa o) (after_updates o w rs))
+      (any_same identity (is_apex_soa o) (soa_respects identity same_type o) (after_updates o z rs) (after_updates o w rs) after) (one_fold identity same_type o rs z h) after
   change_outcome o rs z w false false e h same = same
   change_outcome o rs z w true false e h same = absurd (cc)
   change_outcome o rs z w false true e h same = absurd (cc)
 
-  pub applied_same : (o : DomainName) (rs z w : Records) → HasOneSoa o z → SameZone z w → SameOutcome (applied o 1 z rs true) (applied o 1 w rs true)
-  applied_same o rs z w h same = change_outcome o rs z w (any_change o 1 z rs) (any_change o 1 w rs) (any_change_same o 1 rs z w same) h same
+  pub applied_same : (o : DomainName) (rs z w : Records) → HasOneSoa o z → SameZone z w → SameOutcome (applied o z rs true) (applied o w rs true)
+  applied_same o rs z w h same = change_outcome o rs z w (any_change o z rs) (any_change o w rs) (any_change_same o rs z w same) h same
 
   -- the outcome has one SOA, if it is no refusal
   abbrev OneSoaLeft : DomainName → Outcome → Type 0
@@ -196,8 +196,8 @@ module _ (identity : Identity) (same_type : OfOneType) where
   serial_left o z true h = (next_soa h.0, one_next identity same_type o z h.0 h.1)
   serial_left o z false h = tt
 
-  change_left : (o : DomainName) (rs z : Records) (b : Bool) → HasOneSoa o z → OneSoaLeft o (cond b (with_next_serial o (fold o 1 z rs)) (Ok (z, false)))
-  change_left o rs z true h = serial_left o (fold o 1 z rs) (list_any (is_apex_soa o) (fold o 1 z rs)) (one_fold identity same_type o 1 rs z h)
+  change_left : (o : DomainName) (rs z : Records) (b : Bool) → HasOneSoa o z → OneSoaLeft o (cond b (with_next_serial o (after_updates o z rs)) (Ok (z, false)))
+  change_left o rs z true h = serial_left o (after_updates o z rs) (list_any (is_apex_soa o) (after_updates o z rs)) (one_fold identity same_type o rs z h)
   change_left o rs z false h = h
 
   -- two zones of one origin that have the same records, with one SOA
@@ -221,10 +221,10 @@ module _ (identity : Identity) (same_type : OfOneType) where
 
   made_alike : (rs : Records) (a b x y : MemoryZone) → Alike a b → Makes rs a x → Makes rs b y → Alike x y
   made_alike rs a b x y alike p q =
-      let done : Leaves (applied a.origin 1 (zone_records b.sets) rs true) b y = subst (λ o. Leaves (applied o 1 (zone_records b.sets) rs true) b y) (sym alike.origin) q.done in
-      left_alike (applied a.origin 1 (zone_records a.sets) rs true) (applied a.origin 1 (zone_records b.sets) rs true) a b x y alike
+      let done : Leaves (applied a.origin (zone_records b.sets) rs true) b y = subst (λ o. Leaves (applied o (zone_records b.sets) rs true) b y) (sym alike.origin) q.done in
+      left_alike (applied a.origin (zone_records a.sets) rs true) (applied a.origin (zone_records b.sets) rs true) a b x y alike
       (applied_same a.origin rs (zone_records a.sets) (zone_records b.sets) alike.soa alike.records)
-      (change_left a.origin rs (zone_records a.sets) (any_change a.origin 1 (zone_records a.sets) rs) alike.soa) p.done done
+      (change_left a.origin rs (zone_records a.sets) (any_change a.origin (zone_records a.sets) rs) alike.soa) p.done done
 
   -- ---- entries
 

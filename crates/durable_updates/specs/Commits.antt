@@ -4,10 +4,10 @@ use Rattle.wire_messages.specs.declared.rr.rdata.RData.{RData}
 use Rattle.wire_messages.specs.declared.rr.record.Record.{Record}
 use Rattle.wire_messages.specs.declared.rr.rr_key.RrKey.{RrKey}
 use Rattle.hickory_base.specs.declared.errors.UpdateFault.{UpdateFault}
-use Rattle.hickory_store.specs.UpdatableZone.{UpdatableZone}
+use Rattle.hickory_store.specs.updates.UpdatableZone.{UpdatableZone}
 use Rattle.sqlite_disk.specs.declared.Disk.{Ghosts as DiskGhosts}
-use Rattle.durable_updates.specs.Batches.{Told, told_unwritten}
-use Rattle.durable_updates.specs.DurableUpdates.{IsWriteFault}
+use Rattle.durable_updates.specs.Batches.{told_unwritten}
+use Rattle.durable_updates.specs.DurableUpdates.{IsWriteFault, Told}
 use Rattle.durable_updates.specs.Journalling.{JournalsAll, RefusesEntries}
 use Rattle.durable_updates.specs.Runs.{Server}
 

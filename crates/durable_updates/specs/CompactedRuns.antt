@@ -1,20 +1,21 @@
 -- Lives of a process that serves one zone with its journal in two files by turns, and compacts it now and then.
 use Rattle.std.specs.Prelude.{◌≡◌, ◌⊎◌, ◌+◌, ◌≤◌, ◌^◌, ℕ, Bool, not, cond, true, IsTrue, List, [], ◌∷◌, ◌++◌, length, Option, Result, Ok, Err}
 use Rattle.wire_messages.specs.declared.rr.tsig.TSigResponseContext.{TSigResponseContext}
-use Rattle.hickory_base.specs.requests.Requests.{ReceivedRequest}
+use Rattle.hickory_base.specs.requests.Requests.{ReceivedRequest, TimedRequest}
 use Rattle.hickory_base.specs.zone_store.ZoneAnswers.{MemoryZone}
 use Rattle.hickory_base.specs.zone_store.ZoneSets.{zone_records}
 use Rattle.hickory_base.specs.declared.errors.UpdateFault.{UpdateFault}
-use Rattle.hickory_store.specs.Identity.{SameZone}
-use Rattle.hickory_store.specs.UpdatableZone.{UpdatableZone}
-use Rattle.hickory_store.specs.UpdateLaws.{HasOneSoa, HoldsIn}
-use Rattle.hickory_store.specs.declared.sqlite.verifier.Verifier.{Ghosts}
+use Rattle.hickory_store.specs.updates.Identity.{SameZone}
+use Rattle.hickory_store.specs.updates.UpdatableZone.{UpdatableZone}
+use Rattle.hickory_store.specs.updates.UpdateLaws.{HasOneSoa, HoldsIn}
+use Rattle.hickory_store.specs.declared.updates.verifier.Verifier.{Ghosts}
 use Rattle.sqlite_disk.specs.Disk.{Only}
 use Rattle.sqlite_disk.specs.declared.Disk.{Ghosts as DiskGhosts}
 use Rattle.update_journal.specs.Generations.{StandFor, generation_of}
 use Rattle.update_journal.specs.JournalState.{JournalState}
 use Rattle.update_journal.specs.Read.{contents}
-use Rattle.durable_updates.specs.Batches.{Told, accepted, bytes_of}
+use Rattle.durable_updates.specs.Batches.{accepted, bytes_of}
+use Rattle.durable_updates.specs.DurableUpdates.{Told}
 use Rattle.durable_updates.specs.Compactions.{Compacts, Files}
 use Rattle.durable_updates.specs.Recorded.{IsHandedBack}
 use Rattle.durable_updates.specs.Recovering.{AreFound, counting}
@@ -30,8 +31,8 @@ pub record OnDisk : Type 0 where
   pub first : List ℕ
   pub second : List ℕ
 
--- a zone with its journal and the file that it is compacted into next; whether the journal is in the second file; and the generation that it has once it is
--- compacted
+-- a zone with its journal and the file that it is compacted into next; whether the journal is in the second file; and
+-- the generation that it has once it is compacted
 pub record PairServer (V D : Type 0) : Type 0 where
   pub zone : UpdatableZone V
   pub files : Files D
@@ -93,9 +94,9 @@ module _ {V D : Type 0} (by : Ghosts V) (disks : DiskGhosts D) where
   files_of found first second =
       cond found.is_second (record { journal = opened second found.second.end; spare = opened first found.first.end }) (record { journal = opened first found.first.end; spare = opened second found.second.end })
 
-  -- The server starts on the files: they are recovered, and the entries that count are done to the zone that was there before the first of them, where the
-  -- disks told no lie: the contracts of `recover_two`, `recall` and `JournalledZone::of_two`. The next generation is one more than that of the journal, or the
-  -- last one.
+  -- The server starts on the files: they are recovered, and the entries that count are done to the zone that was there
+  -- before the first of them, where the disks told no lie: the contracts of `recover_two`, `recall` and
+  -- `JournalledZone::of_two`. The next generation is one more than that of the journal, or the last one.
   pub record StartsTwo (base : MemoryZone) (at : OnDisk) (server : PairServer V D) : Type 0 where
     pub disk : D
     pub other_disk : D
@@ -117,19 +118,20 @@ module _ {V D : Type 0} (by : Ghosts V) (disks : DiskGhosts D) where
     pub zone : new.zone ≡ old.zone
     pub turns : Turns result old.is_second old.generation new.is_second new.generation
 
-  -- From its first state on the server has answered requests, one after another or in batches of so many at most, and has compacted its journal in between.
+  -- From its first state on the server has answered requests, one after another or in batches of so many at most, and
+  -- has compacted its journal in between.
   pub data ServesTwo (most : ℕ) (first : PairServer V D) : Life → PairServer V D → Type 0 where
     begun : ServesTwo most first unused first
     answered : {life : Life} {old new : PairServer V D} (request : ReceivedRequest) (now : ℕ) (answer : Result Bool UpdateFault) (context : Option TSigResponseContext)
         → ServesTwo most first life old → ServesOne by disks request now answer context (server_of old) (server_of new) → SameSpare old new
         → ServesTwo most first (after_answer life (those_read (request ∷ [])) answer new.files.journal.is_open) new
-    answered_all : {life : Life} {old new : PairServer V D} (requests : List (ReceivedRequest × ℕ)) (told : List Told)
+    answered_all : {life : Life} {old new : PairServer V D} (requests : List TimedRequest) (told : List Told)
         → ServesTwo most first life old → length requests ≤ most → (all : ServesAll by disks requests told (server_of old) (server_of new)) → SameSpare old new
         → ServesTwo most first (after_answer life (accepted requests all.answers.judged) all.answers.written new.files.journal.is_open) new
     compacted : {life : Life} {old new : PairServer V D} (result : Result (Unit {0}) CompactError) → ServesTwo most first life old → CompactsOnce result old new → ServesTwo most first life new
 
-  -- A life begins with two files, and a crash leaves others: while the server started, or between two calls, or while it was at one request, at a batch or at
-  -- a compaction, at any moment of the call.
+  -- A life begins with two files, and a crash leaves others: while the server started, or between two calls, or while
+  -- it was at one request, at a batch or at a compaction, at any moment of the call.
   pub data IsLifeOfTwo (most : ℕ) (base : MemoryZone) (at : OnDisk) : Life → OnDisk → Type 0 where
     while_starting : {next : OnDisk} {disk other_disk first second : D} → AreDisks at disk other_disk → IsHandedBack disks disk first → IsHandedBack disks other_disk second
         → IsTrue (disks.is_clean first) → IsTrue (disks.is_clean second) → disks.may_leave first next.first → disks.may_leave second next.second → IsLifeOfTwo most base at unused next
@@ -138,7 +140,7 @@ module _ {V D : Type 0} (by : Ghosts V) (disks : DiskGhosts D) where
     within_request : {next : OnDisk} {life : Life} {first old new : PairServer V D} (request : ReceivedRequest) (now : ℕ) (answer : Result Bool UpdateFault) (context : Option TSigResponseContext)
         → StartsTwo base at first → ServesTwo most first life old → ServesOne by disks request now answer context (server_of old) (server_of new) → SameSpare old new → MayLeave new next
         → IsLifeOfTwo most base at (cut_short life (those_read (request ∷ []))) next
-    within_batch : {next : OnDisk} {life : Life} {first old new : PairServer V D} (requests : List (ReceivedRequest × ℕ)) (told : List Told)
+    within_batch : {next : OnDisk} {life : Life} {first old new : PairServer V D} (requests : List TimedRequest) (told : List Told)
         → StartsTwo base at first → ServesTwo most first life old → length requests ≤ most → (all : ServesAll by disks requests told (server_of old) (server_of new))
         → SameSpare old new → MayLeave new next → IsLifeOfTwo most base at (cut_short life (accepted requests all.answers.judged)) next
     within_compaction : {next : OnDisk} {life : Life} {first old new : PairServer V D} (result : Result (Unit {0}) CompactError)
@@ -157,15 +159,17 @@ module _ {V D : Type 0} (by : Ghosts V) (disks : DiskGhosts D) where
     pub may : MayStand lives requests
     pub mean : Mean entries base requests
 
-  -- After a run the files stand for what its lives may leave, be it compacted or not: of each all that it acknowledged, in their order, and then what was in
-  -- doubt, whole or not at all. A server that starts on them has the zone that these requests make of the first zone; and while it serves, the zone of these
-  -- and of the requests that it has acknowledged since.
+  -- After a run the files stand for what its lives may leave, be it compacted or not: of each all that it acknowledged,
+  -- in their order, and then what was in doubt, whole or not at all. A server that starts on them has the zone that
+  -- these requests make of the first zone; and while it serves, the zone of these and of the requests that it has
+  -- acknowledged since.
   pub record AreKept (most : ℕ) (base : MemoryZone) (lives : List Life) (at : OnDisk) : Type 0 where
     pub stands : StandForRequests base lives at
     pub few_in_doubt : AtMostInDoubt most lives
     pub served : (first server : PairServer V D) (life : Life) → StartsTwo base at first → ServesTwo most first life server
         → (requests : List (List ℕ)) × MayStand lives requests × IsMadeBy requests base first.zone.zone × IsMadeBy (requests ++ bytes_of life.acknowledged) base server.zone.zone
 
-  -- The first zone has one SOA at its apex. Where batches have so many requests at most, and that is 1 where there are none.
+  -- The first zone has one SOA at its apex. Where batches have so many requests at most, and that is 1 where there are
+  -- none.
   abbrev pub CompactedRunsAreKept : Type 0
   CompactedRunsAreKept = (most : ℕ) → 1 ≤ most → (base : MemoryZone) (lives : List Life) (at : OnDisk) → HoldsIn HasOneSoa base → RunOfTwo most base lives at → AreKept most base lives at

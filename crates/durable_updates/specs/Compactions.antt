@@ -2,8 +2,8 @@
 use Rattle.std.specs.Prelude.{◌≡◌, ◌⊎◌, ◌+◌, ◌<◌, ◌≤◌, ◌^◌, ℕ, true, false, List, [], Result, Ok, Err}
 use Rattle.hickory_base.specs.zone_store.ZoneAnswers.{MemoryZone}
 use Rattle.hickory_base.specs.zone_store.ZoneSets.{zone_records}
-use Rattle.hickory_store.specs.Identity.{SameZone}
-use Rattle.hickory_store.specs.UpdateLaws.{HasOneSoa, HoldsIn}
+use Rattle.hickory_store.specs.updates.Identity.{SameZone}
+use Rattle.hickory_store.specs.updates.UpdateLaws.{HasOneSoa, HoldsIn}
 use Rattle.sqlite_disk.specs.declared.Disk.{Ghosts as DiskGhosts}
 use Rattle.update_journal.specs.Generations.{IsBeingReplaced, StandFor, generation_of, header}
 use Rattle.update_journal.specs.JournalState.{JournalState}
@@ -21,7 +21,8 @@ pub record Files (D : Type 0) : Type 0 where
   pub spare : JournalState D
 
 module _ {D : Type 0} (disks : DiskGhosts D) where
-  -- The spare file is replaced by a snapshot of the zone. At each moment a crash leaves it with its entries from before, with none, or with all of the new ones.
+  -- The spare file is replaced by a snapshot of the zone. At each moment a crash leaves it with its entries from
+  -- before, with none, or with all of the new ones.
   pub record Replaces (zone : MemoryZone) (generation : ℕ) (snapshot : List (List ℕ)) (old new : JournalState D) : Type 0 where
     pub is_snapshot : IsSnapshot snapshot zone
     pub was_open : old.is_open ≡ true
@@ -33,8 +34,9 @@ module _ {D : Type 0} (disks : DiskGhosts D) where
     pub takes : old.journal.is_open ≡ true
     pub small : generation + 1 < 2 ^ 64
 
-  -- What a compaction answers and leaves: nothing was done; or the spare file has the snapshot, and is the journal's from now on; or it was not replaced
-  -- to the end. Then it is not known for what it stands, and the journal takes no entry any more; or it has its entries from before, or none.
+  -- What a compaction answers and leaves: nothing was done; or the spare file has the snapshot, and is the journal's
+  -- from now on; or it was not replaced to the end. Then it is not known for what it stands, and the journal takes no
+  -- entry any more; or it has its entries from before, or none.
   pub data Compacts (zone : MemoryZone) (generation : ℕ) (old : Files D) : Result (Unit {0}) CompactError → Files D → Type 0 where
     undone : {e : CompactError} → Compacts zone generation old (Err e) old
     done : {t : Unit {0}} {new : Files D} (snapshot : List (List ℕ)) → MayCompact generation old → Replaces zone generation snapshot old.spare new.journal → new.spare ≡ old.journal → new.journal.is_open ≡ true
@@ -50,8 +52,9 @@ LeaveZone first zone one two =
     (entries : List (List ℕ)) × StandFor one two entries × ((new : MemoryZone) → Recalls entries first new → SameZone (zone_records new.sets) (zone_records zone.sets))
 
 module _ {D : Type 0} (disks : DiskGhosts D) where
-  -- While a journal whose entries make a zone is compacted into a spare file of a lower generation, a crash at any moment leaves two files that stand for
-  -- entries which make that zone: those from before, or the snapshot. The spare file is the second one, or the first; that one's generation is lower.
+  -- While a journal whose entries make a zone is compacted into a spare file of a lower generation, a crash at any
+  -- moment leaves two files that stand for entries which make that zone: those from before, or the snapshot. The spare
+  -- file is the second one, or the first; that one's generation is lower.
   abbrev pub CompactionIsKept : Type 0
   CompactionIsKept =
       (first zone : MemoryZone) (generation : ℕ) (snapshot now before : List (List ℕ)) (journal spare replaced : JournalState D)

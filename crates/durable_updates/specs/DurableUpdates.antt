@@ -1,35 +1,40 @@
 -- What a durable update answers.
-use Rattle.std.specs.Prelude.{◌≡◌, ◌⊎◌, ℕ, Bool, true, Option, Result, Err, None}
-use Rattle.wire_messages.specs.declared.rr.tsig.TSigResponseContext.{TSigResponseContext}
-use Rattle.hickory_base.specs.requests.Requests.{ReceivedRequest}
+use Rattle.std.specs.Prelude.{◌≡◌, ◌⊎◌, true, Err, None}
 use Rattle.hickory_base.specs.requests.Updates.{UpdateMessage}
 use Rattle.hickory_base.specs.zone_store.ZoneSets.{zone_records}
 use Rattle.hickory_base.specs.declared.errors.UpdateFault.{UpdateFault}
 use Rattle.hickory_base.specs.declared.errors.UpdateFault.TheVariants.{Code, Memory}
-use Rattle.hickory_store.specs.UpdatableZone.{UpdatableZone}
-use Rattle.hickory_store.specs.UpdateAnswers.{AnswersUpdate, Outcome, Updates, applied, message_outcome}
-use Rattle.hickory_store.specs.declared.sqlite.verifier.Verifier.{Ghosts}
+use Rattle.hickory_base.specs.requests.Requests.{TimedRequest}
+use Rattle.hickory_base.specs.zone_store.Lookups.{SignerContext, UpdateResult}
+use Rattle.hickory_store.specs.updates.UpdatableZone.{UpdatableZone}
+use Rattle.hickory_store.specs.updates.UpdateAnswers.{AnswersUpdate, Outcome, Updates, applied, message_outcome}
+use Rattle.hickory_store.specs.declared.updates.verifier.Verifier.{Ghosts}
+
+-- what a request is answered, and what goes with that for the signer of the reply
+abbrev pub Told : Type 0
+Told = UpdateResult × SignerContext
 
 -- Why a request is not written: ServFail, which is 2, for this reason; or want of memory.
 abbrev pub IsWriteFault : Type 0 → UpdateFault → Type 0
 IsWriteFault Reason fault = (fault ≡ Memory) ⊎ ((fault ≡ Code 2) × Reason)
 
 -- It could not be written to the journal, for this reason: ServFail, which is 2, and the zone is as before.
-abbrev pub IsUnwritten : {V : Type 0} → Type 0 → Result Bool UpdateFault → UpdatableZone V → UpdatableZone V → Type 0
+abbrev pub IsUnwritten : {V : Type 0} → Type 0 → UpdateResult → UpdatableZone V → UpdatableZone V → Type 0
 IsUnwritten Reason answer old new = (answer ≡ Err (Code 2)) × (new ≡ old) × Reason
 
 -- The zone is left as an update of this outcome may leave it, or the update could not be written.
-abbrev pub UpdatesDurably : {V : Type 0} → Type 0 → Outcome → Result Bool UpdateFault → UpdatableZone V → UpdatableZone V → Type 0
+abbrev pub UpdatesDurably : {V : Type 0} → Type 0 → Outcome → UpdateResult → UpdatableZone V → UpdatableZone V → Type 0
 UpdatesDurably Reason outcome answer old new = (Updates outcome answer old.zone new.zone × (new ≡ record old { zone = new.zone })) ⊎ IsUnwritten Reason answer old new
 
 -- The update section of a message is done, or it could not be written.
-abbrev pub DoesDurably : {V : Type 0} → Type 0 → UpdateMessage → Result Bool UpdateFault → UpdatableZone V → UpdatableZone V → Type 0
-DoesDurably Reason message answer old new = UpdatesDurably Reason (applied old.zone.origin 1 (zone_records old.zone.sets) message.updates true) answer old new
+abbrev pub DoesDurably : {V : Type 0} → Type 0 → UpdateMessage → UpdateResult → UpdatableZone V → UpdatableZone V → Type 0
+DoesDurably Reason message answer old new = UpdatesDurably Reason (applied old.zone.origin (zone_records old.zone.sets) message.updates true) answer old new
 
 -- The update of a message that may be made is made, or it could not be written.
-abbrev pub MakesDurably : {V : Type 0} → Type 0 → UpdateMessage → Result Bool UpdateFault → UpdatableZone V → UpdatableZone V → Type 0
+abbrev pub MakesDurably : {V : Type 0} → Type 0 → UpdateMessage → UpdateResult → UpdatableZone V → UpdatableZone V → Type 0
 MakesDurably Reason message answer old new = UpdatesDurably Reason (message_outcome None old.zone message) answer old new
 
--- A request is answered as a zone without a journal answers it; or it could not be written, for this reason.
-abbrev pub AnswersDurably : {V : Type 0} → Type 0 → Ghosts V → UpdatableZone V → ReceivedRequest → ℕ → Result Bool UpdateFault → Option TSigResponseContext → UpdatableZone V → Type 0
-AnswersDurably Reason by old request now answer context new = AnswersUpdate by old request now answer context new ⊎ IsUnwritten Reason answer old new
+-- A request, at its moment, is answered as a zone without a journal answers it; or it could not be written, for this
+-- reason.
+abbrev pub AnswersDurably : {V : Type 0} → Type 0 → Ghosts V → UpdatableZone V → TimedRequest → Told → UpdatableZone V → Type 0
+AnswersDurably Reason by old request told new = AnswersUpdate by old request told.0 told.1 new ⊎ IsUnwritten Reason told.0 old new

@@ -1,9 +1,10 @@
--- A zone with a journal that holds updates: they are made in memory, and wait to be written together. What one call does to zone and entries say the contracts of
--- `update_held` and `write_held`, and that these make a batch of a run `Held`; an invariant alone cannot, as it does not know the messages of entries.
+-- A zone with a journal that holds updates: they are made in memory, and wait to be written together. What one call
+-- does to zone and entries say the contracts of `update_held` and `write_held`, and that these make a batch of a run
+-- `Held`; an invariant alone cannot, as it does not know the messages of entries.
 use Rattle.std.specs.Prelude.{◌≡◌, ℕ, Bool, List, Option, Some, None}
 use Rattle.hickory_base.specs.requests.Requests.{ReceivedRequest}
 use Rattle.hickory_base.specs.zone_store.ZoneAnswers.{MemoryZone}
-use Rattle.hickory_store.specs.UpdatableZone.{UpdatableZone}
+use Rattle.hickory_store.specs.updates.UpdatableZone.{UpdatableZone}
 use Rattle.sqlite_disk.specs.declared.Disk.{Ghosts as DiskGhosts}
 use Rattle.update_journal.specs.JournalState.{JournalState}
 use Rattle.durable_updates.specs.Batches.{bytes_of}

@@ -29,12 +29,14 @@ module _ {D : Type 0} (disks : DiskGhosts D) where
     pub shut : journal.is_open ≡ false
     pub leaves : (c : List ℕ) → disks.may_leave journal.disk c → IsBeforeOrAfter entries (bytes_of in_doubt) c
 
-  -- On the disk are the entries from before and those of all requests that were acknowledged since; these make this zone of the one that was there then.
+  -- On the disk are the entries from before and those of all requests that were acknowledged since; these make this
+  -- zone of the one that was there then.
   pub record IsRecorded (base : MemoryZone) (before : List (List ℕ)) (life : Life) (zone : MemoryZone) (journal : JournalState D) : Type 0 where
     pub redone : Redone (bytes_of life.acknowledged) base zone
     pub journal_is : IsOpen (before ++ bytes_of life.acknowledged) life.in_doubt journal ⊎ IsFailed (before ++ bytes_of life.acknowledged) life.in_doubt journal
 
-  -- So it is for some requests and for the zone that the entries from before make of some first zone, where the disk told no lie.
+  -- So it is for some requests and for the zone that the entries from before make of some first zone, where the disk
+  -- told no lie.
   abbrev pub IsDurable : MemoryZone → JournalState D → Type 0
   IsDurable zone journal =
       IsTrue (disks.is_clean journal.disk) → (first : MemoryZone) × (before : List (List ℕ)) × (base : MemoryZone) × (life : Life)
@@ -51,7 +53,8 @@ module _ {D : Type 0} (disks : DiskGhosts D) where
     pub recovers : Recovers disks.seen disks.may_leave disks.is_clean disk (Ok found) opened
     pub redone : Redone (contents found.entries.items) base new
 
-  -- Both disks were recovered, so that each has a journal's file, and the zone is the one that the entries which count of them make of the first.
+  -- Both disks were recovered, so that each has a journal's file, and the zone is the one that the entries which count
+  -- of them make of the first.
   pub record AreRecovered (first second : D) (base new : MemoryZone) : Type 0 where
     pub opened : D
     pub other : D

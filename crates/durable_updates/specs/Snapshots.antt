@@ -6,8 +6,8 @@ use Rattle.wire_reading.specs.declared.op.message.Message.{Message}
 use Rattle.wire_reading.specs.serialize.reading.MessageReading.{Reads}
 use Rattle.hickory_base.specs.zone_store.ZoneAnswers.{MemoryZone}
 use Rattle.hickory_base.specs.zone_store.ZoneSets.{zone_records}
-use Rattle.hickory_store.specs.Identity.{SameZone, same_record}
-use Rattle.hickory_store.specs.UpdateLaws.{HasOneSoa, HoldsIn}
+use Rattle.hickory_store.specs.updates.Identity.{SameZone, same_record}
+use Rattle.hickory_store.specs.updates.UpdateLaws.{HasOneSoa, HoldsIn}
 use Rattle.durable_updates.specs.Redone.{Redone}
 
 -- The entry begins with a message of this one answer (RFC 1035 section 4.1).
@@ -35,11 +35,13 @@ Say (entry ∷ entries) (r ∷ records) = Says entry r × Say entries records
 abbrev pub IsSnapshot : List (List ℕ) → MemoryZone → Type 0
 IsSnapshot entries zone = (records : List (Record RData)) × Say entries records × SameZone (zone_records zone.sets) records × HoldsIn HasOneSoa zone
 
--- The entries of a file that was compacted: its generation, which has eight bytes, a snapshot, an empty entry behind that, and the requests since.
+-- The entries of a file that was compacted: its generation, which has eight bytes, a snapshot, an empty entry behind
+-- that, and the requests since.
 abbrev pub compacted : List ℕ → List (List ℕ) → List (List ℕ) → List (List ℕ)
 compacted head snapshot requests = head ∷ (snapshot ++ [] ∷ requests)
 
--- The records of the first zone give way to those of the snapshot that the file begins with; behind it are these requests.
+-- The records of the first zone give way to those of the snapshot that the file begins with; behind it are these
+-- requests.
 pub record IsPut (entries : List (List ℕ)) (first base : MemoryZone) (requests : List (List ℕ)) : Type 0 where
   pub head : List ℕ
   pub snapshot : List (List ℕ)
@@ -48,8 +50,8 @@ pub record IsPut (entries : List (List ℕ)) (first base : MemoryZone) (requests
   pub is_snapshot : IsSnapshot snapshot base
   pub others : base ≡ record first { sets = base.sets }
 
--- The zone that the requests of a file are done to, and these: of a file that was compacted those behind the snapshot, to its records; of every other
--- one all entries, to the first zone.
+-- The zone that the requests of a file are done to, and these: of a file that was compacted those behind the snapshot,
+-- to its records; of every other one all entries, to the first zone.
 abbrev pub IsBase : List (List ℕ) → MemoryZone → MemoryZone → List (List ℕ) → Type 0
 IsBase entries first base requests = ((requests ≡ entries) × (base ≡ first)) ⊎ IsPut entries first base requests
 

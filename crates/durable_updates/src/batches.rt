@@ -13,7 +13,7 @@ use crate::updating::told_context;
 use hickory_base::errors::UpdateFault;
 use hickory_base::server::Request;
 use hickory_base::zone_store::{RecordSet, ZoneHandler};
-use hickory_store::sqlite::{SqliteZoneHandler, Verifier};
+use hickory_store::updates::{UpdatableZoneHandler, Verifier};
 use hickory_wire::{ResponseCode, RrKey, TSigResponseContext};
 use sqlite_disk::Disk;
 use std::alloc::{AllocError, Global};
@@ -35,7 +35,7 @@ struct Batch {
 }
 
 /// A copy of the zone's sets, which shares their records.
-pub(crate) fn copied_sets<V: Verifier>(zone: &SqliteZoneHandler<V>) -> Result<Sets, AllocError>
+pub(crate) fn copied_sets<V: Verifier>(zone: &UpdatableZoneHandler<V>) -> Result<Sets, AllocError>
     ensures sets { IfOk result (λ sets. sets_of sets ≡ zone.now.zone.sets) }
     ensures zone { IsZone zone.now.zone.sets }
 {
@@ -46,22 +46,24 @@ pub(crate) fn copied_sets<V: Verifier>(zone: &SqliteZoneHandler<V>) -> Result<Se
 }
 
 /// Puts sets in the place of the zone's. It needs no memory.
-fn restore<V: Verifier>(zone: &mut SqliteZoneHandler<V>, sets: Sets)
+fn restore<V: Verifier>(zone: &mut UpdatableZoneHandler<V>, sets: Sets)
     requires { IsZone (sets_of sets) }
     ensures { zone.new ≡ record zone.old { zone = record zone.old.zone { sets = sets_of sets } } }
 {
     zone.in_memory_mut().replace_records(sets);
 }
 
-/// Makes the update of a request in memory, and puts its bytes last among the entries where it is made. One whose message was not read from its bytes is ServFail.
+/// Makes the update of a request in memory, and puts its bytes last among the entries where it is made. One whose
+/// message was not read from its bytes is ServFail.
 fn judge<V: Verifier>(
-    zone: &mut SqliteZoneHandler<V>,
+    zone: &mut UpdatableZoneHandler<V>,
     alloc: Global,
     timed: &(Request, u64),
     entries: &mut Vec<Vec<u8>>,
 ) -> Result<UpdateAnswer, AllocError>
-    ensures answers { IfOk result (λ told. AnswersRead V.Verifier zone.old timed.now.0 timed.now.1 told.0 told.1 zone.new) }
-    ensures entries { IfOk result (λ told. contents entries.new.items ≡ contents entries.old.items ++ bytes_of (if_accepted told.0 timed.now.0 [])) }
+    ensures answers { IfOk result (λ told. AnswersRead V.Verifier zone.old timed.now told zone.new) }
+    ensures entries { IfOk result (λ told. contents entries.new.items ≡ contents entries.old.items ++ bytes_of
+        (if_accepted told.0 timed.now.0 [])) }
     ensures others { zone.new ≡ record zone.old { zone = record zone.old.zone { sets = zone.new.zone.sets } } }
 {
     let (request, now) = timed;
@@ -77,12 +79,13 @@ fn judge<V: Verifier>(
 
 /// Makes the updates of requests in memory, one after another. After an error those of a front may be made.
 fn judge_all<V: Verifier>(
-    zone: &mut SqliteZoneHandler<V>,
+    zone: &mut UpdatableZoneHandler<V>,
     alloc: Global,
     requests: &[(Request, u64)],
 ) -> Result<Batch, AllocError>
     ensures answers { IfOk result (λ batch. AnswersEach V.Verifier requests.now batch.answers.items zone.old zone.new) }
-    ensures entries { IfOk result (λ batch. contents batch.entries.items ≡ bytes_of (accepted requests.now batch.answers.items)) }
+    ensures entries { IfOk result (λ batch. contents batch.entries.items ≡ bytes_of
+        (accepted requests.now batch.answers.items)) }
     ensures others { zone.new ≡ record zone.old { zone = record zone.old.zone { sets = zone.new.zone.sets } } }
 {
     let mut answers = Vec::new(alloc);
@@ -96,8 +99,9 @@ fn judge_all<V: Verifier>(
     Ok(Batch { answers, entries })
 }
 
-/// Adds the entries of updates that were made in memory to the journal, all or none, with two syncs; none where there are none. Where the journal refuses them,
-/// that is ServFail, and `Memory` where memory was refused: then none of these updates is to be acknowledged, and the zone in memory is ahead of its journal.
+/// Adds the entries of updates that were made in memory to the journal, all or none, with two syncs; none where there
+/// are none. Where the journal refuses them, that is ServFail, and `Memory` where memory was refused: then none of
+/// these updates is to be acknowledged, and the zone in memory is ahead of its journal.
 pub fn write_held<D: Disk>(
     journal: &mut Journal<D>,
     alloc: Global,
@@ -148,16 +152,18 @@ fn take_back(answers: &mut [UpdateAnswer], fault: &UpdateFault)
     }
 }
 
-/// Writes what was judged. Where that is not written, takes it back, and puts the sets of before in the place of the zone's.
+/// Writes what was judged. Where that is not written, takes it back, and puts the sets of before in the place of the
+/// zone's.
 fn commit<V: Verifier, D: Disk>(
-    zone: &mut SqliteZoneHandler<V>,
+    zone: &mut UpdatableZoneHandler<V>,
     journal: &mut Journal<D>,
     alloc: Global,
     before: Sets,
     batch: Batch,
 ) -> Vec<UpdateAnswer>
     requires { IsZone (sets_of before) }
-    ensures commits { Commits D.Disk (sets_of before) (contents batch.entries.items) batch.answers.items result.items (record { zone = zone.old; journal = journal.old }) (record { zone = zone.new; journal = journal.new }) }
+    ensures commits { Commits D.Disk (sets_of before) (contents batch.entries.items) batch.answers.items result.items
+        (record { zone = zone.old; journal = journal.old }) (record { zone = zone.new; journal = journal.new }) }
     ensures clean { D.is_clean journal.new.disk ≡ D.is_clean journal.old.disk }
 {
     let Batch {
@@ -174,26 +180,28 @@ fn commit<V: Verifier, D: Disk>(
     }
 }
 
-/// Makes the updates that requests ask for (RFC 2136 section 3), once the bytes of all that are accepted are on the disk. Each comes with
-/// its moment in seconds since 1970.
+/// Makes the updates that requests ask for (RFC 2136 section 3), once the bytes of all that are accepted are on the
+/// disk. Each comes with its moment in seconds since 1970.
 ///
-/// They are judged one after another as `SqliteZoneHandler::update` judges them, each over the zone that those before it leave; one whose message was not read from its
-/// bytes is ServFail. Those that
-/// are answered `Ok` are written as one batch, of which a crash at any moment leaves all entries or none; then the answers are given, in
-/// the order of the requests. Two syncs for all; none where no request is accepted.
+/// They are judged one after another as `UpdatableZoneHandler::update` judges them, each over the zone that those
+/// before it leave; one whose message was not read from its bytes is ServFail. Those that
+/// are answered `Ok` are written as one batch, of which a crash at any moment leaves all entries or none; then the
+/// answers are given, in the order of the requests. Two syncs for all; none where no request is accepted.
 ///
-/// Where the batch is not written, none is acknowledged: every answer is ServFail (`Memory` where the memory for that was refused, or that
-/// of this request), and the zone is as before. After a failed write the journal is shut, as after `update_durably`. With an error memory was
-/// refused, and nothing happened.
+/// Where the batch is not written, none is acknowledged: every answer is ServFail (`Memory` where the memory for that
+/// was refused, or that of this request), and the zone is as before. After a failed write the journal is shut, as after
+/// `update_durably`. With an error memory was refused, and nothing happened.
 ///
-/// While it is at it, it keeps a copy of the zone's keys: time and memory by the sets of the zone. For one request take `update_durably`.
+/// While it is at it, it keeps a copy of the zone's keys: time and memory by the sets of the zone. For one request take
+/// `update_durably`.
 pub fn update_all_durably<V: Verifier, D: Disk>(
-    zone: &mut SqliteZoneHandler<V>,
+    zone: &mut UpdatableZoneHandler<V>,
     journal: &mut Journal<D>,
     alloc: Global,
     requests: &[(Request, u64)],
 ) -> Result<Vec<UpdateAnswer>, AllocError>
-    ensures served { IfOk result (λ told. ServesAll V.Verifier D.Disk requests.now told.items (record { zone = zone.old; journal = journal.old }) (record { zone = zone.new; journal = journal.new })) }
+    ensures served { IfOk result (λ told. ServesAll V.Verifier D.Disk requests.now told.items
+        (record { zone = zone.old; journal = journal.old }) (record { zone = zone.new; journal = journal.new })) }
     ensures memory { IfErr result (λ _. (zone.new ≡ zone.old) × (journal.new ≡ journal.old)) }
     ensures clean { D.is_clean journal.new.disk ≡ D.is_clean journal.old.disk }
 {

@@ -5,7 +5,7 @@ ghost use Rattle.durable_updates.specs.Compactions.{Compacts};
 ghost use Rattle.durable_updates.specs.Recorded.{IsDurable, IsSpare};
 
 use crate::snapshots::{SnapshotError, snapshot};
-use hickory_store::sqlite::{SqliteZoneHandler, Verifier};
+use hickory_store::updates::{UpdatableZoneHandler, Verifier};
 use sqlite_disk::Disk;
 use std::alloc::Global;
 use std::mem;
@@ -24,7 +24,8 @@ pub enum CompactError {
     /// The zone has no snapshot. Nothing was written.
     #[error("{0}")]
     Zone(SnapshotError),
-    /// The snapshot was not written. After `Disk` the journal takes no entry any more, until it is recovered from its files.
+    /// The snapshot was not written. After `Disk` the journal takes no entry any more, until it is recovered from its
+    /// files.
     #[error("{0}")]
     Journal(JournalError),
 }
@@ -38,7 +39,8 @@ pub(crate) struct Spare<D: Disk + Drop> {
 
 /// Shuts a journal where the spare file takes no entry.
 fn shut_with<D: Disk>(journal: &mut Journal<D>, spare: &Journal<D>)
-    ensures { ((spare.now.is_open ≡ true) × (journal.new ≡ journal.old)) ⊎ ((spare.now.is_open ≡ false) × (journal.new ≡ record journal.old { is_open = false })) }
+    ensures { ((spare.now.is_open ≡ true) × (journal.new ≡ journal.old)) ⊎
+        ((spare.now.is_open ≡ false) × (journal.new ≡ record journal.old { is_open = false })) }
 {
     if spare.is_open() {
         return;
@@ -46,16 +48,18 @@ fn shut_with<D: Disk>(journal: &mut Journal<D>, spare: &Journal<D>)
     journal.shut();
 }
 
-/// Replaces the spare file by a snapshot of the zone. Where that is done, it is the journal's file from now on, and what was the journal's
-/// is the spare one. A journal that takes no entry is left alone, and so is one of the last generation.
+/// Replaces the spare file by a snapshot of the zone. Where that is done, it is the journal's file from now on, and
+/// what was the journal's is the spare one. A journal that takes no entry is left alone, and so is one of the last
+/// generation.
 pub(crate) fn compact<V: Verifier, D: Disk>(
-    zone: &SqliteZoneHandler<V>,
+    zone: &UpdatableZoneHandler<V>,
     journal: &mut Journal<D>,
     spare: &mut Journal<D>,
     alloc: Global,
     generation: u64,
 ) -> Result<(), CompactError>
-    ensures { Compacts D.Disk zone.now.zone generation (record { journal = journal.old; spare = spare.old }) result (record { journal = journal.new; spare = spare.new }) }
+    ensures { Compacts D.Disk zone.now.zone generation (record { journal = journal.old; spare = spare.old }) result
+        (record { journal = journal.new; spare = spare.new }) }
 {
     if !journal.is_open() {
         return Err(CompactError::Journal(JournalError::Shut));
@@ -84,12 +88,13 @@ pub(crate) fn compact<V: Verifier, D: Disk>(
 
 /// The same where there is a spare file, which then has the next generation to give.
 pub(crate) fn compact_into<V: Verifier, D: Disk + Drop>(
-    zone: &SqliteZoneHandler<V>,
+    zone: &UpdatableZoneHandler<V>,
     journal: &mut Journal<D>,
     spare: &mut Option<Spare<D>>,
     alloc: Global,
 ) -> Result<(), CompactError>
-    ensures { IsDurable D.Disk zone.now.zone journal.old → IfSome spare.old (λ s. IsSpare D.Disk s.journal) → IsDurable D.Disk zone.now.zone journal.new × IfSome spare.new (λ s. IsSpare D.Disk s.journal) }
+    ensures { IsDurable D.Disk zone.now.zone journal.old → IfSome spare.old (λ s. IsSpare D.Disk s.journal) →
+        IsDurable D.Disk zone.now.zone journal.new × IfSome spare.new (λ s. IsSpare D.Disk s.journal) }
 {
     let Some(spare) = spare else {
         return Err(CompactError::OneFile);

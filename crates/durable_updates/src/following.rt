@@ -10,14 +10,14 @@ ghost use Rattle.durable_updates.specs.Versions.{AreLed};
 use crate::redoing::{RedoError, read_entry, redo, redo_updates};
 use crate::snapshots::put_snapshot;
 use hickory_base::update_request::UpdateRequest;
-use hickory_store::sqlite::{SqliteZoneHandler, Verifier};
+use hickory_store::updates::{UpdatableZoneHandler, Verifier};
 use std::alloc::Global;
 use zone_differences::laws::recorded_lead;
 use zone_differences::{Before, History};
 
 /// Does one entry again, and puts what it changes last in a history.
 fn redo_one_followed<V: Verifier>(
-    zone: &mut SqliteZoneHandler<V>,
+    zone: &mut UpdatableZoneHandler<V>,
     alloc: Global,
     entry: &[u8],
     history: &mut History,
@@ -35,15 +35,17 @@ fn redo_one_followed<V: Verifier>(
     Ok(())
 }
 
-/// Does entries again as `redo` does, and gives what they change, up to so many records of transfers twice. After an `Err` those of a front are done.
+/// Does entries again as `redo` does, and gives what they change, up to so many records of transfers twice. After an
+/// `Err` those of a front are done.
 fn redo_followed<V: Verifier>(
-    zone: &mut SqliteZoneHandler<V>,
+    zone: &mut UpdatableZoneHandler<V>,
     alloc: Global,
     entries: &[Vec<u8>],
     limit: usize,
 ) -> Result<History, RedoError>
     ensures redone { OnOk result (Redone (contents entries.now) zone.old.zone zone.new.zone) }
-    ensures led { IfOk result (λ history. AreLed (λ done version. Redone done zone.old.zone version) (contents entries.now) history zone.new.zone) }
+    ensures led { IfOk result (λ history. AreLed (λ done version. Redone done zone.old.zone version)
+        (contents entries.now) history zone.new.zone) }
     ensures others { zone.new ≡ record zone.old { zone = zone.new.zone } }
 {
     recorded_lead();
@@ -56,17 +58,19 @@ fn redo_followed<V: Verifier>(
     Ok(history)
 }
 
-/// Does the entries of a file to the first zone as `recall` does, and gives what the last of the requests change: of so many last ones as a history has room
-/// for, which is of as many records of transfers as `History::limit_of` tells of the zone that the first request is done to, twice; a difference has two
-/// records at least. After an `Err` those of a front are done.
+/// Does the entries of a file to the first zone as `recall` does, and gives what the last of the requests change: of so
+/// many last ones as a history has room for, which is of as many records of transfers as `History::limit_of` tells of
+/// the zone that the first request is done to, twice; a difference has two records at least. After an `Err` those of a
+/// front are done.
 pub(crate) fn recall_followed<V: Verifier>(
-    zone: &mut SqliteZoneHandler<V>,
+    zone: &mut UpdatableZoneHandler<V>,
     alloc: Global,
     entries: &[Vec<u8>],
     least: usize,
 ) -> Result<History, RedoError>
     ensures recalled { OnOk result (Recalls (contents entries.now) zone.old.zone zone.new.zone) }
-    ensures led { IfOk result (λ history. AreLed (λ done version. Recalls done zone.old.zone version) (contents entries.now) history zone.new.zone) }
+    ensures led { IfOk result (λ history. AreLed (λ done version. Recalls done zone.old.zone version)
+        (contents entries.now) history zone.new.zone) }
     ensures others { zone.new ≡ record zone.old { zone = zone.new.zone } }
 {
     let requests = put_snapshot(zone, alloc, entries)?;

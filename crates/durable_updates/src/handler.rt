@@ -3,8 +3,8 @@
 ghost use Rattle.std.specs.Prelude.{◌≡◌, ◌⊎◌, IfErr, IfOk, IfSome, IsTrue, None, false};
 ghost use Rattle.hickory_base.specs.zone_store.ZoneAnswers.{LookedUp};
 ghost use Rattle.hickory_base.specs.declared.zone_store.lookup.LookupControlFlow.TheVariants.{Skip};
-ghost use Rattle.hickory_store.specs.Permission.{transfer_permission};
-ghost use Rattle.hickory_store.specs.TransferAnswers.{SearchedIn, TransferredAs};
+ghost use Rattle.hickory_store.specs.updates.Permission.{transfer_permission};
+ghost use Rattle.hickory_store.specs.updates.TransferAnswers.{SearchedIn, TransferredAs};
 ghost use Rattle.durable_updates.specs.Batches.{AnswersBatch};
 ghost use Rattle.durable_updates.specs.DurableUpdates.{AnswersDurably};
 ghost use Rattle.sqlite_disk.specs.Disk.{Only};
@@ -30,7 +30,7 @@ use hickory_base::zone_store::{
     AuthLookup, AxfrPolicy, LookupControlFlow, LookupOptions, Nsec3QueryInfo, NxProofKind,
     ZoneHandler, ZoneTransfer, ZoneType,
 };
-use hickory_store::sqlite::{SqliteZoneHandler, Verifier};
+use hickory_store::updates::{UpdatableZoneHandler, Verifier};
 use hickory_wire::{LowerName, RecordType, TSigResponseContext};
 use sqlite_disk::Disk;
 use std::alloc::{AllocError, Global};
@@ -50,19 +50,20 @@ pub enum OpenError {
     Entries(RedoError),
 }
 
-/// A zone that takes dynamic updates (RFC 2136) as `SqliteZoneHandler` does, each of which is in a journal on the disk before it is
-/// answered `Ok`. Where the journal refuses an update, the answer is ServFail, and the zone is as before; queries go on.
+/// A zone that takes dynamic updates (RFC 2136) as `UpdatableZoneHandler` does, each of which is in a journal on the
+/// disk before it is answered `Ok`. Where the journal refuses an update, the answer is ServFail, and the zone is as
+/// before; queries go on.
 ///
 /// A contract sees the zone alone. What it keeps with its journal is `IsDurable`, whatever is asked of it.
 #[derive(Drop)]
 pub struct JournalledZone<V: Verifier, D: Disk + Drop> {
-    zone: SqliteZoneHandler<V>,
+    zone: UpdatableZoneHandler<V>,
     journal: Journal<D>,
     spare: Option<Spare<D>>,
 }
 
 impl<V: Verifier, D: Disk + Drop> Model for JournalledZone<V, D> {
-    ghost use Rattle.hickory_store.specs.UpdatableZone.{UpdatableZone};
+    ghost use Rattle.hickory_store.specs.updates.UpdatableZone.{UpdatableZone};
     ghost use Rattle.std.specs.Prelude.{IfSome};
     ghost use Rattle.durable_updates.specs.Recorded.{IsDurable, IsSpare};
 
@@ -70,18 +71,22 @@ impl<V: Verifier, D: Disk + Drop> Model for JournalledZone<V, D> {
 
     ghost view = { λ handler. handler.zone };
 
-    ghost invariant = { λ handler. IsDurable D.Disk handler.zone.zone handler.journal × IfSome handler.spare (λ s. IsSpare D.Disk s.journal) };
+    ghost invariant = { λ handler. IsDurable D.Disk handler.zone.zone handler.journal ×
+        IfSome handler.spare (λ s. IsSpare D.Disk s.journal) };
 }
 
 impl<V: Verifier, D: Disk + Drop> JournalledZone<V, D> {
-    /// Opens the journal in a file, and does its entries again to `zone`, the zone that was there before the first of them. An empty
-    /// file is a journal without entries. It takes memory for the file twice and for the zone, and writes at most one byte, with
-    /// one sync.
+    /// Opens the journal in a file, and does its entries again to `zone`, the zone that was there before the first of
+    /// them. An empty file is a journal without entries. It takes memory for the file twice and for the zone, and
+    /// writes at most one byte, with one sync.
     ///
-    /// With an error the file is handed back. It stands for the same entries, and one that is no journal's is as it was.
+    /// # Errors
+    ///
+    /// With an error the file is handed back. It stands for the same entries, and one that is no journal's is as it
+    /// was.
     pub fn open(
         alloc: Global,
-        zone: SqliteZoneHandler<V>,
+        zone: UpdatableZoneHandler<V>,
         disk: D,
     ) -> Result<JournalledZone<V, D>, (OpenError, D)>
         requires usable { IsTrue (D.is_usable disk) }
@@ -103,15 +108,19 @@ impl<V: Verifier, D: Disk + Drop> JournalledZone<V, D> {
         }
     }
 
-    /// Opens the journal that two files are in turns, of which the one with the higher generation counts (the first where they have one),
-    /// and does its entries to `zone`, the zone that was there before the first of them; of a journal that was compacted the snapshot takes
-    /// the place of its records. `compact` goes from the one file to the other. Two empty files are a journal without entries. It takes
-    /// memory for both files twice and for the zone, and writes at most one byte to each, with one sync.
+    /// Opens the journal that two files are in turns, of which the one with the higher generation counts (the first
+    /// where they have one), and does its entries to `zone`, the zone that was there before the first of them; of a
+    /// journal that was compacted the snapshot takes the place of its records. `compact` goes from the one file to the
+    /// other. Two empty files are a journal without entries. It takes memory for both files twice and for the zone, and
+    /// writes at most one byte to each, with one sync.
     ///
-    /// With an error the files are handed back. They stand for the same entries, and where one is no journal's, that is as it was.
+    /// # Errors
+    ///
+    /// With an error the files are handed back. They stand for the same entries, and where one is no journal's, that is
+    /// as it was.
     pub fn open_two(
         alloc: Global,
-        zone: SqliteZoneHandler<V>,
+        zone: UpdatableZoneHandler<V>,
         first: D,
         second: D,
     ) -> Result<JournalledZone<V, D>, (OpenError, D, D)>
@@ -121,7 +130,8 @@ impl<V: Verifier, D: Disk + Drop> JournalledZone<V, D> {
         ensures recovered { IfOk result (λ handler. AreRecovered D.Disk first second zone.zone handler.zone) }
         ensures others { IfOk result (λ handler. handler ≡ record zone { zone = handler.zone }) }
         ensures err { IfErr result (λ e. IsHandedBack D.Disk first e.1 × IsHandedBack D.Disk second e.2) }
-        ensures refused { IfErr result (λ e. IsTrue (is_no_journal e.0) → IsRefused D.Disk first e.1 ⊎ IsRefused D.Disk second e.2) }
+        ensures refused { IfErr result (λ e. IsTrue (is_no_journal e.0) → IsRefused D.Disk first e.1 ⊎
+            IsRefused D.Disk second e.2) }
     {
         let mut zone = zone;
         let mut first = first;
@@ -135,11 +145,12 @@ impl<V: Verifier, D: Disk + Drop> JournalledZone<V, D> {
         }
     }
 
-    /// The same, and what the last of the requests have changed: of those behind the snapshot, and of so many last ones as a history has room for. That is
-    /// of as many records of transfers as `History::limit_of` tells, of the zone that the first of the requests was done to and `least`, twice.
+    /// The same, and what the last of the requests have changed: of those behind the snapshot, and of so many last ones
+    /// as a history has room for. That is of as many records of transfers as `History::limit_of` tells, of the zone
+    /// that the first of the requests was done to and `least`, twice.
     pub fn open_followed(
         alloc: Global,
-        zone: SqliteZoneHandler<V>,
+        zone: UpdatableZoneHandler<V>,
         first: D,
         second: D,
         least: usize,
@@ -150,7 +161,8 @@ impl<V: Verifier, D: Disk + Drop> JournalledZone<V, D> {
         ensures followed { IfOk result (λ opened. AreFollowed D.Disk first second zone.zone opened.1 opened.0.zone) }
         ensures others { IfOk result (λ opened. opened.0 ≡ record zone { zone = opened.0.zone }) }
         ensures err { IfErr result (λ e. IsHandedBack D.Disk first e.1 × IsHandedBack D.Disk second e.2) }
-        ensures refused { IfErr result (λ e. IsTrue (is_no_journal e.0) → IsRefused D.Disk first e.1 ⊎ IsRefused D.Disk second e.2) }
+        ensures refused { IfErr result (λ e. IsTrue (is_no_journal e.0) → IsRefused D.Disk first e.1 ⊎
+            IsRefused D.Disk second e.2) }
     {
         let mut zone = zone;
         let mut first = first;
@@ -166,13 +178,15 @@ impl<V: Verifier, D: Disk + Drop> JournalledZone<V, D> {
 
     /// A handler of the zone that the entries which count of two files make, with these files.
     fn of_two(
-        zone: SqliteZoneHandler<V>,
+        zone: UpdatableZoneHandler<V>,
         first: D,
         second: D,
         found: &TwoRecovered,
     ) -> JournalledZone<V, D>
-        requires first { IsTrue (D.is_clean first) → IsAtRest D.seen D.may_leave first found.now.first.end (contents found.now.first.entries.items) }
-        requires second { IsTrue (D.is_clean second) → IsAtRest D.seen D.may_leave second found.now.second.end (contents found.now.second.entries.items) }
+        requires first { IsTrue (D.is_clean first) →
+            IsAtRest D.seen D.may_leave first found.now.first.end (contents found.now.first.entries.items) }
+        requires second { IsTrue (D.is_clean second) →
+            IsAtRest D.seen D.may_leave second found.now.second.end (contents found.now.second.entries.items) }
         requires recalled { (base : MemoryZone) × Recalls (contents (counting found.now).items) base zone.zone }
         ensures { result ≡ zone }
     {
@@ -188,7 +202,7 @@ impl<V: Verifier, D: Disk + Drop> JournalledZone<V, D> {
 
     /// A handler of a zone with its journal and a spare file.
     fn with_spare(
-        zone: SqliteZoneHandler<V>,
+        zone: UpdatableZoneHandler<V>,
         journal: Journal<D>,
         spare: Journal<D>,
         generation: u64,
@@ -207,9 +221,9 @@ impl<V: Verifier, D: Disk + Drop> JournalledZone<V, D> {
         }
     }
 
-    /// A handler of a zone with its journal: the zone is the one that the entries of the journal make of the first zone, as `redo`
-    /// leaves it of what `recover` found.
-    pub fn new(zone: SqliteZoneHandler<V>, journal: Journal<D>) -> JournalledZone<V, D>
+    /// A handler of a zone with its journal: the zone is the one that the entries of the journal make of the first
+    /// zone, as `redo` leaves it of what `recover` found.
+    pub fn new(zone: UpdatableZoneHandler<V>, journal: Journal<D>) -> JournalledZone<V, D>
         requires { IsDurable D.Disk zone.zone journal }
         ensures { result ≡ zone }
     {
@@ -221,26 +235,32 @@ impl<V: Verifier, D: Disk + Drop> JournalledZone<V, D> {
     }
 
     /// The zone without its journal.
-    pub fn zone(&self) -> &SqliteZoneHandler<V>
+    pub fn zone(&self) -> &UpdatableZoneHandler<V>
         ensures { result.now ≡ self.now }
     {
         &self.zone
     }
 
-    /// Whether the journal takes entries. Once it does not, every update is ServFail, until the zone is recovered from the file.
+    /// Whether the journal takes entries. Once it does not, every update is ServFail, until the zone is recovered from
+    /// the file.
     pub fn takes_updates(&self) -> bool {
         self.journal.is_open()
     }
 
-    /// Makes the updates that requests ask for, each at its moment in seconds since 1970, as `update_all_durably` does: judged one after
-    /// another, on the disk together, all or none, and then answered, in their order. Where they could not be written, none is
-    /// acknowledged, and the zone is as before. With an error memory was refused, and nothing happened.
+    /// Makes the updates that requests ask for, each at its moment in seconds since 1970, as `update_all_durably` does:
+    /// judged one after another, on the disk together, all or none, and then answered, in their order. Where they could
+    /// not be written, none is acknowledged, and the zone is as before.
+    ///
+    /// # Errors
+    ///
+    /// With an error memory was refused, and nothing happened.
     pub fn update_all(
         &mut self,
         alloc: Global,
         requests: &[(Request, u64)],
     ) -> Result<Vec<UpdateAnswer>, AllocError>
-        ensures answers { IfOk result (λ told. AnswersBatch (λ _. Unit {0}) V.Verifier requests.now told.items self.old self.new) }
+        ensures answers { IfOk result (λ told. AnswersBatch (λ _. Unit {0}) V.Verifier requests.now told.items self.old
+            self.new) }
         ensures memory { IfErr result (λ _. self.new ≡ self.old) }
     {
         update_all_durably(&mut self.zone, &mut self.journal, alloc, requests)
@@ -251,10 +271,15 @@ impl<V: Verifier, D: Disk + Drop> JournalledZone<V, D> {
         self.journal.end()
     }
 
-    /// Compacts the journal: writes the zone as it is now to the second file, with the next generation, which then is the journal's file;
-    /// what was it is the second one. It takes memory for the zone four times, and two or three syncs.
+    /// Compacts the journal: writes the zone as it is now to the second file, with the next generation, which then is
+    /// the journal's file; what was it is the second one. It takes memory for the zone four times, and two or three
+    /// syncs.
     ///
-    /// A crash at any moment leaves the old file or the new one to count, whole. After an error the journal is in its file as before, and
+    /// A crash at any moment leaves the old file or the new one to count, whole.
+    ///
+    /// # Errors
+    ///
+    /// After an error the journal is in its file as before, and
     /// takes updates as before; but after `Journal(Disk)` it takes no update any more, until it is opened again.
     pub fn compact(&mut self, alloc: Global) -> Result<(), CompactError>
         ensures { self.new ≡ self.old }
@@ -274,7 +299,7 @@ impl<V: Verifier, D: Disk + Drop> JournalledZone<V, D> {
     }
 
     /// The zone, its journal, and the spare file, if there is one.
-    pub(crate) fn into_whole(self) -> (SqliteZoneHandler<V>, Journal<D>, Option<Spare<D>>)
+    pub(crate) fn into_whole(self) -> (UpdatableZoneHandler<V>, Journal<D>, Option<Spare<D>>)
         ensures zone { result.0 ≡ self }
         ensures durable { IsDurable D.Disk result.0.zone result.1 }
         ensures spare { IfSome result.2 (λ s. IsSpare D.Disk s.journal) }
@@ -288,7 +313,7 @@ impl<V: Verifier, D: Disk + Drop> JournalledZone<V, D> {
     }
 
     /// The zone and its journal, as they are after whatever was asked of the handler.
-    pub fn into_parts(self) -> (SqliteZoneHandler<V>, Journal<D>)
+    pub fn into_parts(self) -> (UpdatableZoneHandler<V>, Journal<D>)
         ensures zone { result.0 ≡ self }
         ensures durable { IsDurable D.Disk result.0.zone result.1 }
     {
@@ -310,17 +335,21 @@ impl<V: Verifier, D: Disk + Drop> ZoneHandler for JournalledZone<V, D> {
 
     ghost lookup_gives = { λ handler name record_type _ _ answer. LookedUp handler.zone name record_type answer };
 
-    ghost search_gives = { λ handler request _ answer context. SearchedIn handler.zone request answer × (context ≡ None) };
+    ghost search_gives = { λ handler request _ answer context. SearchedIn handler.zone request answer ×
+        (context ≡ None) };
 
     ghost consult_gives = { λ _ _ _ _ _ last answer context. (answer ≡ last) × (context ≡ None) };
 
-    ghost transfer_gives = { λ handler request _ now answer. TransferredAs handler.zone (transfer_permission V.Verifier handler.verifier handler.axfr_policy request now) answer };
+    ghost transfer_gives = { λ handler request _ now answer.
+        TransferredAs handler.zone (transfer_permission V.Verifier handler.verifier handler.axfr_policy request now)
+        answer };
 
     ghost nsec_gives = { λ _ _ _ answer. answer ≡ Skip };
 
     ghost nsec3_gives = { λ _ _ _ answer. answer ≡ Skip };
 
-    ghost update_gives = { AnswersDurably (Unit {0}) V.Verifier };
+    ghost update_gives = { λ old request now answer context new.
+        AnswersDurably (Unit {0}) V.Verifier old (request, now) (answer, context) new };
 
     fn zone_type(&self) -> ZoneType {
         self.zone.zone_type()

@@ -13,21 +13,24 @@ use crate::updating::update_durably;
 use hickory_base::errors::UpdateFault;
 use hickory_base::server::Request;
 use hickory_base::zone_store::ZoneHandler;
-use hickory_store::sqlite::{SqliteZoneHandler, Verifier};
+use hickory_store::updates::{UpdatableZoneHandler, Verifier};
 use hickory_wire::ResponseCode;
 use sqlite_disk::Disk;
 use std::alloc::{AllocError, Global};
 use std::marker::Model;
 use update_journal::Journal;
 
-/// How many bytes a journal has for each record set of its zone before it is long: some three times what a snapshot of sets of one short record takes. So a
-/// journal is about as long as its zone and twice that of updates, which is what BIND's `max-journal-size` allows beside a zone.
+/// How many bytes a journal has for each record set of its zone before it is long: some three times what a snapshot of
+/// sets of one short record takes. So a journal is about as long as its zone and twice that of updates, which is what
+/// BIND's `max-journal-size` allows beside a zone.
 const BYTES_PER_SET: usize = 256;
 
-/// For how many record sets a journal has room at least, so that a small zone is not written again behind each few updates.
+/// For how many record sets a journal has room at least, so that a small zone is not written again behind each few
+/// updates.
 const LEAST_SETS: usize = 1000;
 
-/// How long a journal may be, in bytes, before it is to be compacted: 256 bytes for each record set of its zone, and for 1,000 sets at least.
+/// How long a journal may be, in bytes, before it is to be compacted: 256 bytes for each record set of its zone, and
+/// for 1,000 sets at least.
 pub fn longest_journal(sets: usize) -> usize
     ensures { result ≡ min (max sets 1000 * 256) (2 ^ 64 - 1) }
 {
@@ -46,17 +49,19 @@ fn put_entry(alloc: Global, request: &Request, entries: &mut Vec<Vec<u8>>) -> Re
     }
 }
 
-/// Makes an update in memory, as `SqliteZoneHandler::update` does, and puts the bytes of its request last among the entries that are to be written, where it is
-/// made. One whose message was not read from its bytes is ServFail, and changes nothing. Nobody is to be answered before these are written, by `write_held`.
+/// Makes an update in memory, as `UpdatableZoneHandler::update` does, and puts the bytes of its request last among the
+/// entries that are to be written, where it is made. One whose message was not read from its bytes is ServFail, and
+/// changes nothing. Nobody is to be answered before these are written, by `write_held`.
 pub fn update_held<V: Verifier>(
-    zone: &mut SqliteZoneHandler<V>,
+    zone: &mut UpdatableZoneHandler<V>,
     alloc: Global,
     request: &Request,
     now: u64,
     entries: &mut Vec<Vec<u8>>,
 ) -> UpdateAnswer
-    ensures answers { AnswersRead V.Verifier zone.old request.now now result.0 result.1 zone.new }
-    ensures entries { contents entries.new.items ≡ contents entries.old.items ++ bytes_of (if_accepted result.0 request.now []) }
+    ensures answers { AnswersRead V.Verifier zone.old (request.now, now) result zone.new }
+    ensures entries { contents entries.new.items ≡ contents entries.old.items ++ bytes_of
+        (if_accepted result.0 request.now []) }
 {
     if !request.was_read() {
         return (Err(UpdateFault::Code(ResponseCode::SERV_FAIL)), None);
@@ -71,14 +76,16 @@ pub fn update_held<V: Verifier>(
     (answer, context)
 }
 
-/// A zone that takes dynamic updates (RFC 2136) and has a journal, as [`JournalledZone`] has, and may hold updates: from `hold` on they are judged and made in
-/// memory, one after the other, and `settle` writes all together, with two syncs. Whoever holds updates gives no answer before they are settled, not to a query
-/// either: until then the zone in memory is ahead of the one on the disk.
+/// A zone that takes dynamic updates (RFC 2136) and has a journal, as [`JournalledZone`] has, and may hold updates:
+/// from `hold` on they are judged and made in memory, one after the other, and `settle` writes all together, with two
+/// syncs. Whoever holds updates gives no answer before they are settled, not to a query either: until then the zone in
+/// memory is ahead of the one on the disk.
 ///
-/// A contract sees the zone in memory, and whether it holds updates. What it keeps with its journal is `IsDurable` where it holds none, whatever is asked of it.
+/// A contract sees the zone in memory, and whether it holds updates. What it keeps with its journal is `IsDurable`
+/// where it holds none, whatever is asked of it.
 #[derive(Drop)]
 pub struct HoldingZone<V: Verifier, D: Disk + Drop> {
-    zone: SqliteZoneHandler<V>,
+    zone: UpdatableZoneHandler<V>,
     journal: Journal<D>,
     spare: Option<Spare<D>>,
     held: Option<Vec<Vec<u8>>>,
@@ -97,7 +104,9 @@ impl<V: Verifier, D: Disk + Drop> Model for HoldingZone<V, D> {
 
     ghost view = { λ handler. record { updatable = handler.zone; holds = is_some handler.held } };
 
-    ghost invariant = { λ handler. IsKeptBut D.Disk handler.zone.zone handler.journal (option_map (λ entries. contents entries.items) handler.held) × IfSome handler.spare (λ s. IsSpare D.Disk s.journal) };
+    ghost invariant = { λ handler. IsKeptBut D.Disk handler.zone.zone handler.journal
+        (option_map (λ entries. contents entries.items) handler.held) ×
+        IfSome handler.spare (λ s. IsSpare D.Disk s.journal) };
 }
 
 impl<V: Verifier, D: Disk + Drop> HoldingZone<V, D> {
@@ -116,18 +125,20 @@ impl<V: Verifier, D: Disk + Drop> HoldingZone<V, D> {
     }
 
     /// The zone in memory, without its journal.
-    pub fn zone(&self) -> &SqliteZoneHandler<V>
+    pub fn zone(&self) -> &UpdatableZoneHandler<V>
         ensures { result.now ≡ self.now.updatable }
     {
         &self.zone
     }
 
-    /// Whether the journal takes entries. Once it does not, every update is ServFail, be it held or not, until the zone is recovered from the file.
+    /// Whether the journal takes entries. Once it does not, every update is ServFail, be it held or not, until the zone
+    /// is recovered from the file.
     pub fn takes_updates(&self) -> bool {
         self.journal.is_open()
     }
 
-    /// Has updates held from now on, until they are settled. A journal that takes no entries has none held: each update is ServFail as ever. It takes no memory.
+    /// Has updates held from now on, until they are settled. A journal that takes no entries has none held: each update
+    /// is ServFail as ever. It takes no memory.
     pub fn hold(&mut self, alloc: Global)
         ensures zone { self.new.updatable ≡ self.old.updatable }
         ensures kept { self.old.holds ≡ true → self.new.holds ≡ true }
@@ -137,9 +148,10 @@ impl<V: Verifier, D: Disk + Drop> HoldingZone<V, D> {
         }
     }
 
-    /// Writes the updates that are held, all or none, with two syncs; none where there are none. Whether that is done: from then on none is held. Where it is
-    /// not, they are held still, so that the zone in memory is ahead: it is to be recovered from its files, and none of these updates is to be acknowledged.
-    /// A crash at any moment leaves all of them on the disk, or none.
+    /// Writes the updates that are held, all or none, with two syncs; none where there are none. Whether that is done:
+    /// from then on none is held. Where it is not, they are held still, so that the zone in memory is ahead: it is to
+    /// be recovered from its files, and none of these updates is to be acknowledged. A crash at any moment leaves all
+    /// of them on the disk, or none.
     pub fn settle(&mut self, alloc: Global) -> bool
         ensures zone { self.new.updatable ≡ self.old.updatable }
         ensures holds { self.new.holds ≡ not result }
@@ -154,9 +166,11 @@ impl<V: Verifier, D: Disk + Drop> HoldingZone<V, D> {
         true
     }
 
-    /// Makes an update. Where updates are held, it waits to be written; else it is on the disk before the answer, as `update_durably` says.
+    /// Makes an update. Where updates are held, it waits to be written; else it is on the disk before the answer, as
+    /// `update_durably` says.
     pub fn update(&mut self, alloc: Global, request: &Request, now: u64) -> UpdateAnswer
-        ensures answers { AnswersDurably (Unit {0}) V.Verifier self.old.updatable request.now now result.0 result.1 self.new.updatable }
+        ensures answers { AnswersDurably (Unit {0}) V.Verifier self.old.updatable (request.now, now) result
+            self.new.updatable }
         ensures kept { OnErr result.0 (self.new ≡ self.old) }
         ensures holds { self.new.holds ≡ self.old.holds }
     {
@@ -169,16 +183,18 @@ impl<V: Verifier, D: Disk + Drop> HoldingZone<V, D> {
         }
     }
 
-    /// How long the journal may be before it is to be compacted again. A zone of long records has a long snapshot, and what could not be compacted is not tried
-    /// again at once: so it may be twice as long as it was behind the last compaction, or try of one, too.
+    /// How long the journal may be before it is to be compacted again. A zone of long records has a long snapshot, and
+    /// what could not be compacted is not tried again at once: so it may be twice as long as it was behind the last
+    /// compaction, or try of one, too.
     fn longest(&self) -> usize {
         let sets = self.zone.in_memory().records().len();
         longest_journal(sets).max(self.last.saturating_mul(2))
     }
 
-    /// Whether the journal is to be compacted: where it never was, so that the zone of before its first entry still counts; or where it is longer than
-    /// [`longest_journal`] says of the zone, and more than twice as long as behind the last compaction since it was opened, or try of one. It is not where updates
-    /// are held, where the journal takes no entries, or where it has one file. It costs nothing by the size of the zone.
+    /// Whether the journal is to be compacted: where it never was, so that the zone of before its first entry still
+    /// counts; or where it is longer than [`longest_journal`] says of the zone, and more than twice as long as behind
+    /// the last compaction since it was opened, or try of one. It is not where updates are held, where the journal
+    /// takes no entries, or where it has one file. It costs nothing by the size of the zone.
     pub fn needs_compaction(&self) -> bool
         ensures held { self.now.holds ≡ true → result ≡ false }
     {
@@ -190,7 +206,8 @@ impl<V: Verifier, D: Disk + Drop> HoldingZone<V, D> {
         }
     }
 
-    /// Compacts the journal, as [`JournalledZone::compact`] does. Where updates are held, that is the error `Held`, and nothing is written.
+    /// Compacts the journal, as [`JournalledZone::compact`] does. Where updates are held, that is the error `Held`, and
+    /// nothing is written.
     pub fn compact(&mut self, alloc: Global) -> Result<(), CompactError>
         ensures stays { self.new ≡ self.old }
         ensures held { self.old.holds ≡ true → result ≡ Err CompactError.Held }
@@ -203,8 +220,9 @@ impl<V: Verifier, D: Disk + Drop> HoldingZone<V, D> {
         compacted
     }
 
-    /// The zone in memory and its journal, as they are after whatever was asked of the handler: where no updates are held, the journal keeps the zone.
-    pub fn into_parts(self) -> (SqliteZoneHandler<V>, Journal<D>)
+    /// The zone in memory and its journal, as they are after whatever was asked of the handler: where no updates are
+    /// held, the journal keeps the zone.
+    pub fn into_parts(self) -> (UpdatableZoneHandler<V>, Journal<D>)
         ensures zone { result.0 ≡ self.updatable }
         ensures durable { self.holds ≡ false → IsDurable D.Disk result.0.zone result.1 }
     {

@@ -39,10 +39,12 @@ pub(crate) fn recover_two<D: Disk>(
     second: &mut D,
 ) -> Result<TwoRecovered, RecoverError>
     requires usable { IsTrue (D.is_usable first.old) × IsTrue (D.is_usable second.old) }
-    requires restarted { Only (D.seen first.old) (D.may_leave first.old) × Only (D.seen second.old) (D.may_leave second.old) }
+    requires restarted { Only (D.seen first.old) (D.may_leave first.old) ×
+        Only (D.seen second.old) (D.may_leave second.old) }
     ensures found { IfOk result (λ found. AreFound D.Disk first.old second.old found first.new second.new) }
     ensures handed_back { IsHandedBack D.Disk first.old first.new × IsHandedBack D.Disk second.old second.new }
-    ensures refused { IfErr result (λ e. IsTrue (is_refusal e) → IsRefused D.Disk first.old first.new ⊎ IsRefused D.Disk second.old second.new) }
+    ensures refused { IfErr result (λ e. IsTrue (is_refusal e) → IsRefused D.Disk first.old first.new ⊎
+        IsRefused D.Disk second.old second.new) }
 {
     let found = recover(alloc, first)?;
     let other = recover(alloc, second)?;

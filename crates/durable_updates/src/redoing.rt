@@ -11,7 +11,7 @@ ghost use Rattle.durable_updates.specs.Redone.{Makes, Redone, RedoesOne};
 use hickory_base::errors::UpdateFault;
 use hickory_base::server::Request;
 use hickory_base::update_request::UpdateRequest;
-use hickory_store::sqlite::{SqliteZoneHandler, Verifier};
+use hickory_store::updates::{UpdatableZoneHandler, Verifier};
 use hickory_wire::{ProtoError, Protocol, Record};
 use std::alloc::{AllocError, AllocFailed, Global};
 use std::net::{IpAddr, Ipv4Addr, SocketAddr};
@@ -56,10 +56,10 @@ pub fn read_entry(alloc: Global, entry: &[u8]) -> Result<Request, RedoError>
     }
 }
 
-/// Does an update section again that passes the prescan, and tells whether it changed the zone. One that is refused, for want of an SOA, leaves the zone as
-/// it was when it came.
+/// Does an update section again that passes the prescan, and tells whether it changed the zone. One that is refused,
+/// for want of an SOA, leaves the zone as it was when it came.
 pub(crate) fn redo_updates<V: Verifier>(
-    zone: &mut SqliteZoneHandler<V>,
+    zone: &mut UpdatableZoneHandler<V>,
     alloc: Global,
     updates: &[Record],
 ) -> Result<bool, RedoError>
@@ -80,7 +80,7 @@ pub(crate) fn redo_updates<V: Verifier>(
 
 /// Does one entry again.
 fn redo_one<V: Verifier>(
-    zone: &mut SqliteZoneHandler<V>,
+    zone: &mut UpdatableZoneHandler<V>,
     alloc: Global,
     entry: &[u8],
 ) -> Result<(), RedoError>
@@ -92,10 +92,10 @@ fn redo_one<V: Verifier>(
     Ok(())
 }
 
-/// Does the entries of a journal again, the first first, to the zone that was there before the first of them. Permissions and
-/// prerequisites are not asked for again. After an `Err` those of a front are done.
+/// Does the entries of a journal again, the first first, to the zone that was there before the first of them.
+/// Permissions and prerequisites are not asked for again. After an `Err` those of a front are done.
 pub fn redo<V: Verifier>(
-    zone: &mut SqliteZoneHandler<V>,
+    zone: &mut UpdatableZoneHandler<V>,
     alloc: Global,
     entries: &[Vec<u8>],
 ) -> Result<(), RedoError>
@@ -110,15 +110,17 @@ pub fn redo<V: Verifier>(
     Ok(())
 }
 
-/// Does entries again up to the first zone of a serial, and gives those behind that; `None` where no zone on the way has it, and then all
-/// are done. After an `Err` those of a front are done.
+/// Does entries again up to the first zone of a serial, and gives those behind that; `None` where no zone on the way
+/// has it, and then all are done. After an `Err` those of a front are done.
 pub(crate) fn redo_to<'e, V: Verifier>(
-    zone: &mut SqliteZoneHandler<V>,
+    zone: &mut UpdatableZoneHandler<V>,
     alloc: Global,
     entries: &'e [Vec<u8>],
     serial: u32,
 ) -> Result<Option<&'e [Vec<u8>]>, RedoError>
-    ensures redone { IfOk result (λ found. IfSome found (λ rest. (done : List (List ℕ)) × (contents entries.now ≡ done ++ contents rest.now) × Redone done zone.old.zone zone.new.zone × (soa_serial (zone_soa zone.new.zone) ≡ serial))) }
+    ensures redone { IfOk result (λ found.
+        IfSome found (λ rest. (done : List (List ℕ)) × (contents entries.now ≡ done ++ contents rest.now) ×
+        Redone done zone.old.zone zone.new.zone × (soa_serial (zone_soa zone.new.zone) ≡ serial))) }
     ensures others { zone.new ≡ record zone.old { zone = zone.new.zone } }
 {
     let mut rest = entries;

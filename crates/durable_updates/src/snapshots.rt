@@ -3,8 +3,8 @@
 ghost use Rattle.std.specs.Prelude.{◌≡◌, ◌++◌, ◌∷◌, [], List, ℕ, IfOk, IfSome, IsTrue, OnOk, true};
 ghost use Rattle.hickory_base.specs.zone_store.ZoneAnswers.{soa_serial, zone_soa};
 ghost use Rattle.hickory_base.specs.zone_store.ZoneSets.{sets_of, zone_records};
-ghost use Rattle.hickory_store.specs.Identity.{SameZone, same_record};
-ghost use Rattle.hickory_store.specs.UpdateLaws.{HasOneSoa, HoldsIn};
+ghost use Rattle.hickory_store.specs.updates.Identity.{SameZone, same_record};
+ghost use Rattle.hickory_store.specs.updates.UpdateLaws.{HasOneSoa, HoldsIn};
 ghost use Rattle.update_journal.specs.Read.{contents};
 ghost use Rattle.durable_updates.specs.Snapshots.{IsAnswer, IsBase, IsSnapshot, Recalls, Say, Says};
 ghost use Rattle.wire_messages.specs.declared.rr.record.Record.{Record as ResourceRecord};
@@ -14,8 +14,8 @@ use crate::batches::Sets;
 use crate::redoing::{RedoError, redo, redo_to};
 use hickory_base::zone_store::{AxfrPolicy, InMemoryZoneHandler, ZoneHandler, ZoneType};
 use hickory_store::file::{RecordsError, zone_of_records};
-use hickory_store::sqlite::laws::identities;
-use hickory_store::sqlite::{SqliteZoneHandler, Verifier};
+use hickory_store::updates::laws::identities;
+use hickory_store::updates::{UpdatableZoneHandler, Verifier};
 use hickory_wire::{
     DecodeError, Message, MessageType, Metadata, OpCode, Record, ReplyParts, encode_message_parts,
     record_comparisons,
@@ -27,7 +27,8 @@ use thiserror::Error;
 /// Why a zone has no snapshot.
 #[derive(Clone, Copy, Debug, PartialEq, Eq, Error)]
 pub enum SnapshotError {
-    /// A record is not read back as it is from a message of 65,535 bytes, or the records make no zone with one SOA at its apex.
+    /// A record is not read back as it is from a message of 65,535 bytes, or the records make no zone with one SOA at
+    /// its apex.
     #[error("the zone does not read back as it is")]
     Unreadable,
     /// Memory was refused.
@@ -115,7 +116,8 @@ fn push_record(
     record: &Record,
     entries: &mut Vec<Vec<u8>>,
 ) -> Result<(), SnapshotError>
-    ensures { OnOk result ((entry : List ℕ) × (contents entries.new.items ≡ contents entries.old.items ++ entry ∷ []) × Says entry «record».now) }
+    ensures { OnOk result ((entry : List ℕ) × (contents entries.new.items ≡ contents entries.old.items ++ entry ∷ []) ×
+        Says entry «record».now) }
 {
     let entry = message_of(alloc, slice::from_ref(record))?;
     let r = read_record(alloc, &entry)?;
@@ -132,7 +134,8 @@ fn push_records(
     records: &[Record],
     entries: &mut Vec<Vec<u8>>,
 ) -> Result<(), SnapshotError>
-    ensures { OnOk result ((added : List (List ℕ)) × (contents entries.new.items ≡ contents entries.old.items ++ added) × Say added records.now) }
+    ensures { OnOk result ((added : List (List ℕ)) ×
+        (contents entries.new.items ≡ contents entries.old.items ++ added) × Say added records.now) }
 {
     let mut rest = records;
     while let [first, others @ ..] = rest {
@@ -162,7 +165,8 @@ struct Found<'e> {
 
 /// Reads entries up to the first empty one, which stands behind a snapshot.
 fn read_snapshot<'e>(alloc: Global, entries: &'e [Vec<u8>]) -> Result<Found<'e>, RedoError>
-    ensures { IfOk result (λ found. (snapshot : List (List ℕ)) × (contents entries.now ≡ snapshot ++ [] ∷ contents found.requests.now) × Say snapshot found.records.items) }
+    ensures { IfOk result (λ found. (snapshot : List (List ℕ)) ×
+        (contents entries.now ≡ snapshot ++ [] ∷ contents found.requests.now) × Say snapshot found.records.items) }
 {
     identities();
     let mut records = Vec::new(alloc);
@@ -182,7 +186,7 @@ fn read_snapshot<'e>(alloc: Global, entries: &'e [Vec<u8>]) -> Result<Found<'e>,
 
 /// The zone of these records, with the apex of this one. It has one SOA there.
 fn zone_of<V: Verifier>(
-    zone: &SqliteZoneHandler<V>,
+    zone: &UpdatableZoneHandler<V>,
     alloc: Global,
     records: Vec<Record>,
 ) -> Result<InMemoryZoneHandler, RedoError>
@@ -203,13 +207,15 @@ fn zone_of<V: Verifier>(
     }
 }
 
-/// The records of a zone as entries, each a message of one answer, in the order of their names and types, with an empty entry behind
-/// them. What is written is read back before it is given, and made a zone. It takes memory for the zone three times.
+/// The records of a zone as entries, each a message of one answer, in the order of their names and types, with an empty
+/// entry behind them. What is written is read back before it is given, and made a zone. It takes memory for the zone
+/// three times.
 pub fn snapshot<V: Verifier>(
-    zone: &SqliteZoneHandler<V>,
+    zone: &UpdatableZoneHandler<V>,
     alloc: Global,
 ) -> Result<Vec<Vec<u8>>, SnapshotError>
-    ensures { IfOk result (λ entries. (written : List (List ℕ)) × (contents entries.items ≡ written ++ [] ∷ []) × IsSnapshot written zone.now.zone) }
+    ensures { IfOk result (λ entries. (written : List (List ℕ)) × (contents entries.items ≡ written ++ [] ∷ []) ×
+        IsSnapshot written zone.now.zone) }
 {
     identities();
     record_comparisons();
@@ -223,7 +229,7 @@ pub fn snapshot<V: Verifier>(
 
 /// Puts records in the place of those of a zone.
 fn put_records<V: Verifier>(
-    zone: &mut SqliteZoneHandler<V>,
+    zone: &mut UpdatableZoneHandler<V>,
     alloc: Global,
     records: Vec<Record>,
 ) -> Result<(), RedoError>
@@ -237,14 +243,15 @@ fn put_records<V: Verifier>(
     Ok(())
 }
 
-/// Where the file was compacted, puts the records of its snapshot in the place of those of the first zone, and gives the requests behind it; of
-/// every other file it gives all entries. After an `Err` the zone is as before.
+/// Where the file was compacted, puts the records of its snapshot in the place of those of the first zone, and gives
+/// the requests behind it; of every other file it gives all entries. After an `Err` the zone is as before.
 pub(crate) fn put_snapshot<'e, V: Verifier>(
-    zone: &mut SqliteZoneHandler<V>,
+    zone: &mut UpdatableZoneHandler<V>,
     alloc: Global,
     entries: &'e [Vec<u8>],
 ) -> Result<&'e [Vec<u8>], RedoError>
-    ensures base { IfOk result (λ requests. IsBase (contents entries.now) zone.old.zone zone.new.zone (contents requests.now)) }
+    ensures base { IfOk result (λ requests. IsBase (contents entries.now) zone.old.zone zone.new.zone
+        (contents requests.now)) }
     ensures others { zone.new ≡ record zone.old { zone = zone.new.zone } }
 {
     let [head, others @ ..] = entries else {
@@ -258,11 +265,11 @@ pub(crate) fn put_snapshot<'e, V: Verifier>(
     Ok(requests)
 }
 
-/// Does the entries of a file to the first zone, the one of before any of them. A file that was compacted begins with its generation and a
-/// snapshot, whose records take the place of those of the first zone; every other one is done as `redo` does it. After an `Err` those of
-/// a front are done.
+/// Does the entries of a file to the first zone, the one of before any of them. A file that was compacted begins with
+/// its generation and a snapshot, whose records take the place of those of the first zone; every other one is done as
+/// `redo` does it. After an `Err` those of a front are done.
 pub fn recall<V: Verifier>(
-    zone: &mut SqliteZoneHandler<V>,
+    zone: &mut UpdatableZoneHandler<V>,
     alloc: Global,
     entries: &[Vec<u8>],
 ) -> Result<(), RedoError>
@@ -273,15 +280,17 @@ pub fn recall<V: Verifier>(
     redo(zone, alloc, requests)
 }
 
-/// The same up to the first zone of a serial, and the entries behind that; `None` where no zone on the way has it, and then all are done.
-/// The first zone is that of the snapshot, where the file was compacted.
+/// The same up to the first zone of a serial, and the entries behind that; `None` where no zone on the way has it, and
+/// then all are done. The first zone is that of the snapshot, where the file was compacted.
 pub fn recall_to<'e, V: Verifier>(
-    zone: &mut SqliteZoneHandler<V>,
+    zone: &mut UpdatableZoneHandler<V>,
     alloc: Global,
     entries: &'e [Vec<u8>],
     serial: u32,
 ) -> Result<Option<&'e [Vec<u8>]>, RedoError>
-    ensures recalled { IfOk result (λ found. IfSome found (λ rest. (done : List (List ℕ)) × (contents entries.now ≡ done ++ contents rest.now) × Recalls done zone.old.zone zone.new.zone × (soa_serial (zone_soa zone.new.zone) ≡ serial))) }
+    ensures recalled { IfOk result
+        (λ found. IfSome found (λ rest. (done : List (List ℕ)) × (contents entries.now ≡ done ++ contents rest.now) ×
+        Recalls done zone.old.zone zone.new.zone × (soa_serial (zone_soa zone.new.zone) ≡ serial))) }
     ensures others { zone.new ≡ record zone.old { zone = zone.new.zone } }
 {
     let requests = put_snapshot(zone, alloc, entries)?;

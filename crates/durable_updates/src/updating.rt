@@ -2,8 +2,8 @@
 
 ghost use Rattle.std.specs.Prelude.{◌≡◌, IfErr, IfOk, None, OnErr, OnOk, false, true};
 ghost use Rattle.hickory_base.specs.requests.Updates.{update_of};
-ghost use Rattle.hickory_store.specs.Prescan.{prescan_refusal};
-ghost use Rattle.hickory_store.specs.UpdateAnswers.{told_context};
+ghost use Rattle.hickory_store.specs.updates.Prescan.{prescan_refusal};
+ghost use Rattle.hickory_store.specs.updates.UpdateAnswers.{told_context};
 ghost use Rattle.durable_updates.specs.DurableUpdates.{AnswersDurably, DoesDurably, IsWriteFault, MakesDurably};
 ghost use Rattle.durable_updates.specs.Journalling.{Journals, RefusesRequest};
 ghost use Rattle.durable_updates.specs.ReadRequests.{IsRead};
@@ -12,13 +12,14 @@ ghost use Rattle.durable_updates.specs.Redone.{Makes};
 use hickory_base::errors::UpdateFault;
 use hickory_base::server::Request;
 use hickory_base::update_request::UpdateRequest;
-use hickory_store::sqlite::{SqliteZoneHandler, Verifier};
+use hickory_store::updates::{UpdatableZoneHandler, Verifier};
 use hickory_wire::{ResponseCode, TSigResponseContext};
 use sqlite_disk::Disk;
 use std::alloc::Global;
 use update_journal::{Journal, JournalError};
 
-/// Adds a request to the journal. Where the journal refuses it, or its message was not read from its bytes, that is ServFail, and `Memory` where memory was refused.
+/// Adds a request to the journal. Where the journal refuses it, or its message was not read from its bytes, that is
+/// ServFail, and `Memory` where memory was refused.
 fn write<D: Disk>(
     journal: &mut Journal<D>,
     alloc: Global,
@@ -42,16 +43,17 @@ fn write<D: Disk>(
     }
 }
 
-/// Writes the request to the journal, and then does its update section. Where that fails, for want of memory or of an SOA, the
-/// request stands in the journal, which is shut.
+/// Writes the request to the journal, and then does its update section. Where that fails, for want of memory or of an
+/// SOA, the request stands in the journal, which is shut.
 fn write_and_do<V: Verifier, D: Disk>(
-    zone: &mut SqliteZoneHandler<V>,
+    zone: &mut UpdatableZoneHandler<V>,
     journal: &mut Journal<D>,
     alloc: Global,
     request: &Request,
 ) -> Result<bool, UpdateFault>
-    requires { prescan_refusal zone.old.zone.origin 1 (update_of request.now.message).updates ≡ None }
-    ensures done { DoesDurably (RefusesRequest D.is_usable journal.new request.now) (update_of request.now.message) result zone.old zone.new }
+    requires { prescan_refusal zone.old.zone.origin (update_of request.now.message).updates ≡ None }
+    ensures done { DoesDurably (RefusesRequest D.is_usable journal.new request.now)
+        (update_of request.now.message) result zone.old zone.new }
     ensures made { OnOk result (Makes (update_of request.now.message).updates zone.old.zone zone.new.zone) }
     ensures untouched { IfOk result (λ changed. changed ≡ false → zone.new ≡ zone.old) }
     ensures accepted { OnOk result (request.now.was_read ≡ true) }
@@ -71,12 +73,13 @@ fn write_and_do<V: Verifier, D: Disk>(
 
 /// Makes the update of a request that may be made.
 fn make<V: Verifier, D: Disk>(
-    zone: &mut SqliteZoneHandler<V>,
+    zone: &mut UpdatableZoneHandler<V>,
     journal: &mut Journal<D>,
     alloc: Global,
     request: &Request,
 ) -> Result<bool, UpdateFault>
-    ensures done { MakesDurably (RefusesRequest D.is_usable journal.new request.now) (update_of request.now.message) result zone.old zone.new }
+    ensures done { MakesDurably (RefusesRequest D.is_usable journal.new request.now)
+        (update_of request.now.message) result zone.old zone.new }
     ensures made { OnOk result (Makes (update_of request.now.message).updates zone.old.zone zone.new.zone) }
     ensures untouched { IfOk result (λ changed. changed ≡ false → zone.new ≡ zone.old) }
     ensures accepted { OnOk result (request.now.was_read ≡ true) }
@@ -106,21 +109,24 @@ pub(crate) fn told_context(
     }
 }
 
-/// Makes the update that a request asks for (RFC 2136 section 3), once its bytes are on the disk. `now` is in seconds since 1970.
+/// Makes the update that a request asks for (RFC 2136 section 3), once its bytes are on the disk. `now` is in seconds
+/// since 1970.
 ///
-/// First it is judged as `SqliteZoneHandler::update` judges it; a request that is refused is not written. With an answer of `Ok` its
-/// bytes are an entry of the journal. Where the journal refuses them, as it takes no entry or they are 2^32 or more, or where the message was not read from them, the
-/// answer is ServFail, and the zone is as before. A journal in which a write has failed, or whose last entry was not done for want of memory, is shut: every update is ServFail
-/// until the zone is recovered from the file. Whatever the answer, a crash leaves the entries from before, with this one or
-/// without. Two syncs.
+/// First it is judged as `UpdatableZoneHandler::update` judges it; a request that is refused is not written. With an
+/// answer of `Ok` its bytes are an entry of the journal. Where the journal refuses them, as it takes no entry or they
+/// are 2^32 or more, or where the message was not read from them, the answer is ServFail, and the zone is as before. A
+/// journal in which a write has failed, or whose last entry was not done for want of memory, is shut: every update is
+/// ServFail until the zone is recovered from the file. Whatever the answer, a crash leaves the entries from before,
+/// with this one or without. Two syncs.
 pub fn update_durably<V: Verifier, D: Disk>(
-    zone: &mut SqliteZoneHandler<V>,
+    zone: &mut UpdatableZoneHandler<V>,
     journal: &mut Journal<D>,
     alloc: Global,
     request: &Request,
     now: u64,
 ) -> (Result<bool, UpdateFault>, Option<TSigResponseContext>)
-    ensures answers { AnswersDurably (RefusesRequest D.is_usable journal.new request.now) V.Verifier zone.old request.now now result.0 result.1 zone.new }
+    ensures answers { AnswersDurably (RefusesRequest D.is_usable journal.new request.now) V.Verifier zone.old
+        (request.now, now) result zone.new }
     ensures made { OnOk result.0 (Makes (update_of request.now.message).updates zone.old.zone zone.new.zone) }
     ensures kept { OnErr result.0 (zone.new ≡ zone.old) }
     ensures read { request.now.was_read ≡ true → IsRead request.now }

@@ -8,7 +8,7 @@ use durable_updates::{CompactError, HoldingZone};
 use hickory_base::errors::UpdateFault;
 use hickory_base::server::Request;
 use hickory_base::zone_store::ZoneHandler;
-use hickory_store::sqlite::{SqliteZoneHandler, Verifier};
+use hickory_store::updates::{UpdatableZoneHandler, Verifier};
 use hickory_wire::TSigResponseContext;
 use sqlite_disk::Disk;
 use std::alloc::Global;
@@ -18,14 +18,14 @@ use update_journal::Journal;
 #[derive(Drop)]
 pub(crate) enum Kept<V: Verifier, D: Disk + Drop> {
     /// Memory alone.
-    Memory(SqliteZoneHandler<V>),
+    Memory(UpdatableZoneHandler<V>),
     /// A journal too.
     Journal(HoldingZone<V, D>),
 }
 
 impl<V: Verifier, D: Disk + Drop> Kept<V, D> {
     /// The handler that takes its updates.
-    pub(crate) fn updatable(&self) -> &SqliteZoneHandler<V>
+    pub(crate) fn updatable(&self) -> &UpdatableZoneHandler<V>
         ensures { result.now ≡ (kept_zone self.now).updatable }
     {
         match self {
@@ -51,7 +51,8 @@ impl<V: Verifier, D: Disk + Drop> Kept<V, D> {
         request: &Request,
         now: u64,
     ) -> (Result<bool, UpdateFault>, Option<TSigResponseContext>)
-        ensures gives { Updates V.Verifier (kept_zone self.old) request.now now result.0 result.1 (kept_zone self.new) }
+        ensures gives { Updates V.Verifier (kept_zone self.old) (request.now, now) result.0 result.1
+            (kept_zone self.new) }
         ensures kept { OnErr result.0 (kept_zone self.new ≡ kept_zone self.old) }
     {
         match self {
@@ -103,10 +104,11 @@ impl<V: Verifier, D: Disk + Drop> Kept<V, D> {
     }
 
     /// The zone, and its journal, if it has one.
-    pub(crate) fn into_parts(self) -> (SqliteZoneHandler<V>, Option<Journal<D>>)
+    pub(crate) fn into_parts(self) -> (UpdatableZoneHandler<V>, Option<Journal<D>>)
         ensures zone { result.0 ≡ (kept_zone self).updatable }
         ensures journal { is_some result.1 ≡ (kept_zone self).is_journalled }
-        ensures durable { IfSome result.1 (λ journal. (kept_zone self).holds ≡ false → IsDurable D.Disk result.0.zone journal) }
+        ensures durable { IfSome result.1 (λ journal. (kept_zone self).holds ≡ false →
+            IsDurable D.Disk result.0.zone journal) }
     {
         match self {
             Kept::Memory(zone) => (zone, None),

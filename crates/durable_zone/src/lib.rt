@@ -1,10 +1,10 @@
-//! A zone that takes dynamic updates (RFC 2136), has each on the disk before it is answered where it has a journal, and answers standard queries as an
-//! authoritative server does (RFC 1034 section 4.3.2).
+//! A zone that takes dynamic updates (RFC 2136), has each on the disk before it is answered where it has a journal, and
+//! answers standard queries as an authoritative server does (RFC 1034 section 4.3.2).
 #![tactic(auto)]
 
 ghost use Rattle.std.specs.Prelude.{◌≡◌, ◌⊎◌, IfErr, IfOk, IfSome, IsTrue, None, false, is_some, not, true};
 ghost use Rattle.hickory_base.specs.declared.zone_store.lookup.LookupControlFlow.TheVariants.{Skip};
-ghost use Rattle.hickory_store.specs.Permission.{transfer_permission};
+ghost use Rattle.hickory_store.specs.updates.Permission.{transfer_permission};
 ghost use Rattle.dynamic_zone.specs.DynamicZones.{LookedUp, Searched, TransferAnswered};
 ghost use Rattle.durable_updates.specs.OpenErrors.{is_no_journal};
 ghost use Rattle.durable_updates.specs.Recorded.{AreRecovered, IsDurable, IsHandedBack, IsRefused};
@@ -23,17 +23,18 @@ use hickory_base::zone_store::{
     AuthLookup, AxfrPolicy, LookupControlFlow, LookupOptions, Nsec3QueryInfo, NxProofKind,
     ZoneHandler, ZoneTransfer, ZoneType,
 };
-use hickory_store::sqlite::{SqliteZoneHandler, Verifier};
+use hickory_store::updates::{UpdatableZoneHandler, Verifier};
 use hickory_wire::{LowerName, RecordType, TSigResponseContext};
 use sqlite_disk::Disk;
 use std::alloc::Global;
 use std::marker::Model;
 use update_journal::Journal;
 
-/// A zone that takes updates, with a journal or in memory alone, and answers standard queries in the zone that they leave.
+/// A zone that takes updates, with a journal or in memory alone, and answers standard queries in the zone that they
+/// leave.
 ///
-/// An update that is answered `Ok` of a zone with a journal is on the disk before the answer. Where the journal refuses it, the answer is ServFail, and
-/// nothing has changed: queries go on.
+/// An update that is answered `Ok` of a zone with a journal is on the disk before the answer. Where the journal refuses
+/// it, the answer is ServFail, and nothing has changed: queries go on.
 #[derive(Drop)]
 pub struct DurableZone<V: Verifier, D: Disk + Drop> {
     kept: Kept<V, D>,
@@ -61,7 +62,7 @@ impl<V: Verifier, D: Disk + Drop> DurableZone<V, D> {
     }
 
     /// A zone without a journal: its updates last as long as it does. It takes no memory.
-    pub fn in_memory(zone: SqliteZoneHandler<V>) -> DurableZone<V, D>
+    pub fn in_memory(zone: UpdatableZoneHandler<V>) -> DurableZone<V, D>
         ensures { result ≡ record { updatable = zone; is_journalled = false; holds = false } }
     {
         DurableZone::of(Kept::Memory(zone))
@@ -74,11 +75,12 @@ impl<V: Verifier, D: Disk + Drop> DurableZone<V, D> {
         DurableZone::of(Kept::Journal(HoldingZone::new(zone)))
     }
 
-    /// Opens the journal that two files are in turns, as [`JournalledZone::open_two`] does: the zone is the one that their entries make of `zone`, and of a
-    /// journal that was compacted nothing of the records of `zone` is left. With an error the files are handed back.
+    /// Opens the journal that two files are in turns, as [`JournalledZone::open_two`] does: the zone is the one that
+    /// their entries make of `zone`, and of a journal that was compacted nothing of the records of `zone` is left. With
+    /// an error the files are handed back.
     pub fn open(
         alloc: Global,
-        zone: SqliteZoneHandler<V>,
+        zone: UpdatableZoneHandler<V>,
         first: D,
         second: D,
     ) -> Result<DurableZone<V, D>, (OpenError, D, D)>
@@ -86,9 +88,16 @@ impl<V: Verifier, D: Disk + Drop> DurableZone<V, D> {
         // After a restart, what is read is what is on the disk.
         requires restarted { Only (D.seen first) (D.may_leave first) × Only (D.seen second) (D.may_leave second) }
         ensures recovered { IfOk result (λ opened. AreRecovered D.Disk first second zone.zone opened.updatable.zone) }
-        ensures others { IfOk result (λ opened. opened ≡ record { updatable = record zone { zone = opened.updatable.zone }; is_journalled = true; holds = false }) }
+        ensures others { IfOk result (λ opened.
+            opened ≡ record {
+              updatable = record zone { zone = opened.updatable.zone };
+              is_journalled = true;
+              holds =
+                  false;
+            }) }
         ensures err { IfErr result (λ e. IsHandedBack D.Disk first e.1 × IsHandedBack D.Disk second e.2) }
-        ensures refused { IfErr result (λ e. IsTrue (is_no_journal e.0) → IsRefused D.Disk first e.1 ⊎ IsRefused D.Disk second e.2) }
+        ensures refused { IfErr result (λ e. IsTrue (is_no_journal e.0) → IsRefused D.Disk first e.1 ⊎
+            IsRefused D.Disk second e.2) }
     {
         match JournalledZone::open_two(alloc, zone, first, second) {
             Ok(opened) => Ok(DurableZone::journalled(opened)),
@@ -97,22 +106,23 @@ impl<V: Verifier, D: Disk + Drop> DurableZone<V, D> {
     }
 
     /// The handler that takes its updates.
-    pub fn updatable(&self) -> &SqliteZoneHandler<V>
+    pub fn updatable(&self) -> &UpdatableZoneHandler<V>
         ensures { result.now ≡ self.now.updatable }
     {
         self.kept.updatable()
     }
 
-    /// Whether updates can be answered with anything but ServFail: a zone with a journal takes none any more once a write has failed, until it is opened
-    /// again.
+    /// Whether updates can be answered with anything but ServFail: a zone with a journal takes none any more once a
+    /// write has failed, until it is opened again.
     pub fn takes_updates(&self) -> bool
         ensures { self.now.is_journalled ≡ false → result ≡ true }
     {
         self.kept.takes_updates()
     }
 
-    /// Has updates held from now on, until they are settled, as [`HoldingZone::hold`] does: whoever calls it gives no answer of the zone before that. Without a
-    /// journal, or with one that takes no entries, none is held. It takes no memory.
+    /// Has updates held from now on, until they are settled, as [`HoldingZone::hold`] does: whoever calls it gives no
+    /// answer of the zone before that. Without a journal, or with one that takes no entries, none is held. It takes no
+    /// memory.
     pub fn hold(&mut self, alloc: Global)
         ensures held { self.new ≡ record self.old { holds = self.new.holds } }
         ensures kept { self.old.holds ≡ true → self.new.holds ≡ true }
@@ -120,15 +130,16 @@ impl<V: Verifier, D: Disk + Drop> DurableZone<V, D> {
         self.kept.hold(alloc)
     }
 
-    /// Writes the updates that are held, all or none, as [`HoldingZone::settle`] does; whether none is held any more. Where it is false the zone in memory is
-    /// ahead of the journal, and is to be opened anew.
+    /// Writes the updates that are held, all or none, as [`HoldingZone::settle`] does; whether none is held any more.
+    /// Where it is false the zone in memory is ahead of the journal, and is to be opened anew.
     pub fn settle(&mut self, alloc: Global) -> bool
         ensures { self.new ≡ record self.old { holds = not result } }
     {
         self.kept.settle(alloc)
     }
 
-    /// Whether there is a journal that is to be compacted, as [`HoldingZone::needs_compaction`] tells: never where updates are held.
+    /// Whether there is a journal that is to be compacted, as [`HoldingZone::needs_compaction`] tells: never where
+    /// updates are held.
     pub fn needs_compaction(&self) -> bool
         ensures memory { self.now.is_journalled ≡ false → result ≡ false }
         ensures held { self.now.holds ≡ true → result ≡ false }
@@ -143,8 +154,9 @@ impl<V: Verifier, D: Disk + Drop> DurableZone<V, D> {
         self.kept.compact(alloc)
     }
 
-    /// The zone, and its journal, if it has one, as they are after whatever was asked of the handler: where no updates are held, the journal keeps the zone.
-    pub fn into_parts(self) -> (SqliteZoneHandler<V>, Option<Journal<D>>)
+    /// The zone, and its journal, if it has one, as they are after whatever was asked of the handler: where no updates
+    /// are held, the journal keeps the zone.
+    pub fn into_parts(self) -> (UpdatableZoneHandler<V>, Option<Journal<D>>)
         ensures zone { result.0 ≡ self.updatable }
         ensures journal { is_some result.1 ≡ self.is_journalled }
         ensures durable { IfSome result.1 (λ journal. self.holds ≡ false → IsDurable D.Disk result.0.zone journal) }
@@ -164,19 +176,24 @@ impl<V: Verifier, D: Disk + Drop> ZoneHandler for DurableZone<V, D> {
 
     ghost nx_proof_kind_of = { λ _. None };
 
-    ghost lookup_gives = { λ handler name record_type _ _ answer. LookedUp handler.updatable.zone name record_type answer };
+    ghost lookup_gives = { λ handler name record_type _ _ answer.
+        LookedUp handler.updatable.zone name record_type answer };
 
-    ghost search_gives = { λ handler request _ answer context. Searched handler.updatable.zone request answer × (context ≡ None) };
+    ghost search_gives = { λ handler request _ answer context. Searched handler.updatable.zone request answer ×
+        (context ≡ None) };
 
     ghost consult_gives = { λ _ _ _ _ _ last answer context. (answer ≡ last) × (context ≡ None) };
 
-    ghost transfer_gives = { λ handler request _ now answer. TransferAnswered handler.updatable.zone (transfer_permission V.Verifier handler.updatable.verifier handler.updatable.axfr_policy request now) request answer };
+    ghost transfer_gives = { λ handler request _ now answer. TransferAnswered handler.updatable.zone
+        (transfer_permission V.Verifier handler.updatable.verifier handler.updatable.axfr_policy request now) request
+        answer };
 
     ghost nsec_gives = { λ _ _ _ answer. answer ≡ Skip };
 
     ghost nsec3_gives = { λ _ _ _ answer. answer ≡ Skip };
 
-    ghost update_gives = { Updates V.Verifier };
+    ghost update_gives = { λ old request now answer context new.
+        Updates V.Verifier old (request, now) answer context new };
 
     fn zone_type(&self) -> ZoneType {
         self.kept.updatable().zone_type()

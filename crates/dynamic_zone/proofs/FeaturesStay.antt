@@ -20,13 +20,13 @@ use Rattle.hickory_base.specs.requests.Updates.{update_of}
 use Rattle.hickory_base.specs.zone_store.ZoneRecords.{existing, is_of}
 use Rattle.hickory_base.specs.zone_store.ZoneSets.{AreSetsInOrder, IsZone, zone_records}
 use Rattle.hickory_base.specs.declared.errors.UpdateFault.{UpdateFault}
-use Rattle.hickory_store.specs.Identity.{same_record}
-use Rattle.hickory_store.specs.UpdatableZone.{UpdatableZone}
-use Rattle.hickory_store.specs.UpdateAnswers.{AnswersUpdate}
-use Rattle.hickory_store.specs.declared.sqlite.verifier.Verifier.{Ghosts}
-use Rattle.hickory_zone.proofs.lemmas.names.Between.{same_of}
+use Rattle.hickory_store.specs.updates.Identity.{same_record}
+use Rattle.hickory_store.specs.updates.UpdatableZone.{UpdatableZone}
+use Rattle.hickory_store.specs.updates.UpdateAnswers.{AnswersUpdate}
+use Rattle.hickory_store.specs.declared.updates.verifier.Verifier.{Ghosts}
+use Rattle.hickory_zone.proofs.lemmas.names.EnclosedBetween.{same_of}
 use Rattle.hickory_zone.proofs.lemmas.zones.Features.{wild_of_length}
-use Rattle.hickory_zone.specs.Features.{AreFeatures, Covers, Includes, IsOfLength, IsWildWithin}
+use Rattle.hickory_zone.specs.representation.Features.{AreFeatures, Covers, Includes, IsOfLength, IsWildWithin}
 use Rattle.hickory_zone.specs.Replies.{zone_of}
 use Rattle.hickory_zone.specs.Zones.{Exists, HasDname, IsCut, Sets, rrset, wildcard}
 use Rattle.hickory_zone.specs.declared.features.Features.{Features}
@@ -97,7 +97,7 @@ module _ (P : DomainName → ℕ → Type 0) (respects : (a b : DomainName) (t :
       step false is go k = go k
 
 module _ (identity : (a b : Resource) → IsTrue (same_record a b) ↔ SameRecord a b) {V : Type 0} (by : Ghosts V) (request : ReceivedRequest) (now : ℕ) (answer : Result Bool UpdateFault) (context : Option TSigResponseContext)
-    (old new : UpdatableZone V) (a : AnswersUpdate by old request now answer context new)
+    (old new : UpdatableZone V) (a : AnswersUpdate by old (request, now) answer context new)
     (zone : IsZone old.zone.sets) (ordered : AreSetsInOrder old.zone.sets) (zone_after : IsZone new.zone.sets) (ordered_after : AreSetsInOrder new.zone.sets)
     (less more : Features) (has : AreFeatures (zone_of old.zone) less) (includes : Includes less more) (covers : AllByRecursion (Covers more) (update_of request.message).updates) where
   abbrev origin : DomainName

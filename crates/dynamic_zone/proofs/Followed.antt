@@ -12,11 +12,11 @@ use Rattle.hickory_base.specs.requests.Updates.{update_of}
 use Rattle.hickory_base.specs.zone_store.ZoneAnswers.{MemoryZone}
 use Rattle.hickory_base.specs.zone_store.ZoneSets.{AreSetsInOrder, IsZone}
 use Rattle.hickory_base.specs.declared.errors.UpdateFault.{UpdateFault}
-use Rattle.hickory_store.specs.Identity.{is_in_zone, same_record}
-use Rattle.hickory_store.specs.UpdatableZone.{UpdatableZone}
-use Rattle.hickory_store.specs.UpdateAnswers.{AnswersUpdate}
-use Rattle.hickory_store.specs.declared.sqlite.verifier.Verifier.{Ghosts}
-use Rattle.hickory_zone.specs.Features.{AreFeatures, Covers, Includes}
+use Rattle.hickory_store.specs.updates.Identity.{is_in_zone, same_record}
+use Rattle.hickory_store.specs.updates.UpdatableZone.{UpdatableZone}
+use Rattle.hickory_store.specs.updates.UpdateAnswers.{AnswersUpdate}
+use Rattle.hickory_store.specs.declared.updates.verifier.Verifier.{Ghosts}
+use Rattle.hickory_zone.specs.representation.Features.{AreFeatures, Covers, Includes}
 use Rattle.hickory_zone.specs.Replies.{zone_of}
 use Rattle.hickory_zone.specs.Zones.{AreOwners}
 use Rattle.hickory_zone.specs.declared.features.Features.{Features}
@@ -40,7 +40,7 @@ pub record Brings (less more : Features) (updates : Records) : Type 0 where
   pub covers : All (Covers more) updates
 
 module _ (zones : (origin name : DomainName) → IsTrue (is_in_zone origin name) ↔ Encloses origin.labels name.labels) (identity : (a b : Resource) → IsTrue (same_record a b) ↔ SameRecord a b)
-    {V : Type 0} (by : Ghosts V) (request : ReceivedRequest) (now : ℕ) (answer : Result Bool UpdateFault) (context : Option TSigResponseContext) (old new : UpdatableZone V) (a : AnswersUpdate by old request now answer context new)
+    {V : Type 0} (by : Ghosts V) (request : ReceivedRequest) (now : ℕ) (answer : Result Bool UpdateFault) (context : Option TSigResponseContext) (old new : UpdatableZone V) (a : AnswersUpdate by old (request, now) answer context new)
     (before : AreSets old) (after : AreSets new) (less more : Features) (is_owned : Bool) where
   brought : Brings less more (update_of request.message).updates → AreFeatures (zone_of old.zone) less × (IsTrue is_owned ↔ AreOwners old.zone.origin old.zone.sets) → is_owned ≡ true
       → AreFeatures (zone_of new.zone) more × (IsTrue is_owned ↔ AreOwners new.zone.origin new.zone.sets)

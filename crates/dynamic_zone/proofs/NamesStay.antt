@@ -1,4 +1,5 @@
--- What is so of the owner names and types of a zone's records, and of those that an update brings, is so once the update was answered.
+-- What is so of the owner names and types of a zone's records, and of those that an update brings, is so once the
+-- update was answered.
 use Rattle.std.proofs.Common.{◌≡◌, ◌∙◌, ap, sym, refl, subst, ℕ, Bool, true, false, cond, not, List, [], ◌∷◌, ◌++◌, filter, map, Option, Some, None, Result, Ok, Err}
 use Rattle.std.specs.Prelude.{◌↔◌, IsTrue}
 use Rattle.std.specs.List.{AllByRecursion, list_any}
@@ -13,15 +14,15 @@ use Rattle.hickory_base.specs.requests.Updates.{UpdateMessage, update_of}
 use Rattle.hickory_base.specs.zone_store.ZoneAnswers.{MemoryZone}
 use Rattle.hickory_base.specs.zone_store.ZoneSets.{zone_records}
 use Rattle.hickory_base.specs.declared.errors.UpdateFault.{UpdateFault}
-use Rattle.hickory_store.specs.Changes.{any_change, comes, fold, goes_when, is_spared, turn}
-use Rattle.hickory_store.specs.Identity.{SameZone, same_record, ttl_at}
-use Rattle.hickory_store.specs.Permission.{update_permission}
-use Rattle.hickory_store.specs.Prerequisites.{prerequisites_refusal}
-use Rattle.hickory_store.specs.Prescan.{prescan_refusal}
-use Rattle.hickory_store.specs.UpdatableZone.{UpdatableZone}
-use Rattle.hickory_store.specs.UpdateAnswers.{AnswersUpdate, IsOutcome, Outcome, Updates, applied, incremented, is_apex_soa, message_outcome, next_data, unless_refused, with_next_serial}
-use Rattle.hickory_store.specs.declared.sqlite.verifier.Verifier.{Ghosts}
-use Rattle.hickory_store.proofs.UpdatedZones.{next_type, same_type}
+use Rattle.hickory_store.specs.updates.Changes.{any_change, is_added, after_updates, is_deleted_when, is_spared, after_record}
+use Rattle.hickory_store.specs.updates.Identity.{SameZone, same_record, ttl_at}
+use Rattle.hickory_store.specs.updates.Permission.{update_permission}
+use Rattle.hickory_store.specs.updates.Prerequisites.{prerequisites_refusal}
+use Rattle.hickory_store.specs.updates.Prescan.{prescan_refusal}
+use Rattle.hickory_store.specs.updates.UpdatableZone.{UpdatableZone}
+use Rattle.hickory_store.specs.updates.UpdateAnswers.{AnswersUpdate, IsOutcome, Outcome, Updates, applied, incremented, is_apex_soa, message_outcome, next_data, unless_refused, with_next_serial}
+use Rattle.hickory_store.specs.declared.updates.verifier.Verifier.{Ghosts}
+use Rattle.hickory_store.proofs.lemmas.updates.UpdatedZones.{next_type, same_type}
 use Rattle.dynamic_zone.proofs.OwnerNames.{Records, Resource, both}
 
 kept : {X : Type 0} (P : X → Type 0) (keep : X → Bool) (z : List X) → AllByRecursion P z → AllByRecursion P (filter keep z)
@@ -46,7 +47,7 @@ same_origin outcome (Ok changed) old new u = ap (λ (z : MemoryZone). z.origin) 
 same_origin outcome (Err fault) old new u = ap (λ (z : MemoryZone). z.origin) u.1
 
 pub origin_stays : {V : Type 0} (by : Ghosts V) (request : ReceivedRequest) (now : ℕ) (answer : Result Bool UpdateFault) (context : Option TSigResponseContext) (old new : UpdatableZone V)
-    → AnswersUpdate by old request now answer context new → new.zone.origin ≡ old.zone.origin
+    → AnswersUpdate by old (request, now) answer context new → new.zone.origin ≡ old.zone.origin
 origin_stays by request now answer context old new a =
     same_origin (message_outcome (update_permission by old.verifier old.allow_update request now).refusal old.zone (update_of request.message)) answer old.zone new.zone a.0
 
@@ -59,17 +60,17 @@ module _ (identity : (a b : Resource) → IsTrue (same_record a b) ↔ SameRecor
 
   -- ---- what the records of an update leave
 
-  turn_when : (o : DomainName) (c : ℕ) (z : Records) (r : Resource) (a b : Bool) → Of r → AllOf z → AllOf (filter (λ q. not (goes_when o c r a b q)) z ++ cond a (r ∷ []) [])
-  turn_when o c z r true b k h = both Of (filter (λ q. not (goes_when o c r true b q)) z) (r ∷ []) (kept Of (λ q. not (goes_when o c r true b q)) z h) (k, tt)
-  turn_when o c z r false b k h = both Of (filter (λ q. not (goes_when o c r false b q)) z) [] (kept Of (λ q. not (goes_when o c r false b q)) z h) tt
+  after_record_when : (o : DomainName) (z : Records) (r : Resource) (a b : Bool) → Of r → AllOf z → AllOf (filter (λ q. not (is_deleted_when o r a b q)) z ++ cond a (r ∷ []) [])
+  after_record_when o z r true b k h = both Of (filter (λ q. not (is_deleted_when o r true b q)) z) (r ∷ []) (kept Of (λ q. not (is_deleted_when o r true b q)) z h) (k, tt)
+  after_record_when o z r false b k h = both Of (filter (λ q. not (is_deleted_when o r false b q)) z) [] (kept Of (λ q. not (is_deleted_when o r false b q)) z h) tt
 
-  turned : (o : DomainName) (c : ℕ) (z : Records) (r : Resource) → Of r → AllOf z → AllOf (turn o c z r)
-  unfolding turn
-  turned o c z r k h = turn_when o c z r (comes c z r) (is_spared c z r) k h
+  turned : (o : DomainName) (z : Records) (r : Resource) → Of r → AllOf z → AllOf (after_record o z r)
+  unfolding after_record
+  turned o z r k h = after_record_when o z r (is_added z r) (is_spared z r) k h
 
-  folded : (o : DomainName) (c : ℕ) (rs z : Records) → AllOf rs → AllOf z → AllOf (fold o c z rs)
-  folded o c [] z k h = h
-  folded o c (r ∷ rs) z k h = folded o c rs (turn o c z r) k.1 (turned o c z r k.0 h)
+  folded : (o : DomainName) (rs z : Records) → AllOf rs → AllOf z → AllOf (after_updates o z rs)
+  folded o [] z k h = h
+  folded o (r ∷ rs) z k h = folded o rs (after_record o z r) k.1 (turned o z r k.0 h)
 
   next_one : (q : Resource) (b : Bool) → Of q → Of (cond b (record q { rdata = next_data q.rdata }) q)
   next_one q true h = subst (P q.name) (sym (next_type q.rdata)) h
@@ -87,23 +88,23 @@ module _ (identity : (a b : Resource) → IsTrue (same_record a b) ↔ SameRecor
   found_left o z true h = nexts o z h
   found_left o z false h = tt
 
-  changed_left : (o : DomainName) (rs z : Records) (b : Bool) → AllOf rs → AllOf z → Left (cond b (with_next_serial o (fold o 1 z rs)) (Ok (z, false)))
-  changed_left o rs z true k h = found_left o (fold o 1 z rs) (list_any (is_apex_soa o) (fold o 1 z rs)) (folded o 1 rs z k h)
+  changed_left : (o : DomainName) (rs z : Records) (b : Bool) → AllOf rs → AllOf z → Left (cond b (with_next_serial o (after_updates o z rs)) (Ok (z, false)))
+  changed_left o rs z true k h = found_left o (after_updates o z rs) (list_any (is_apex_soa o) (after_updates o z rs)) (folded o rs z k h)
   changed_left o rs z false k h = h
 
   unless_left : (code : Option ℕ) (outcome : Outcome) → (code ≡ None → Left outcome) → Left (unless_refused code outcome)
   unless_left None outcome h = h refl
   unless_left (Some code) outcome h = tt
 
-  message_left : (refusal : Option ℕ) (zone : MemoryZone) (message : UpdateMessage) → (prescan_refusal zone.origin 1 message.updates ≡ None → AllOf message.updates)
+  message_left : (refusal : Option ℕ) (zone : MemoryZone) (message : UpdateMessage) → (prescan_refusal zone.origin message.updates ≡ None → AllOf message.updates)
       → AllOf (zone_records zone.sets) → Left (message_outcome refusal zone message)
   message_left refusal zone message k h =
       let records : Records = zone_records zone.sets in
-      let last : Outcome = applied zone.origin 1 records message.updates true in
-      let scan : Option ℕ = prescan_refusal zone.origin 1 message.updates in
-      unless_left refusal (unless_refused (prerequisites_refusal zone.origin 1 records message.prerequisites) (unless_refused scan last)) (λ _.
-      unless_left (prerequisites_refusal zone.origin 1 records message.prerequisites) (unless_refused scan last) (λ _.
-      unless_left scan last (λ e. changed_left zone.origin message.updates records (any_change zone.origin 1 records message.updates) (k e) h)))
+      let last : Outcome = applied zone.origin records message.updates true in
+      let scan : Option ℕ = prescan_refusal zone.origin message.updates in
+      unless_left refusal (unless_refused (prerequisites_refusal zone.origin records message.prerequisites) (unless_refused scan last)) (λ _.
+      unless_left (prerequisites_refusal zone.origin records message.prerequisites) (unless_refused scan last) (λ _.
+      unless_left scan last (λ e. changed_left zone.origin message.updates records (any_change zone.origin records message.updates) (k e) h)))
 
   -- ---- lists that stand for one zone
 
@@ -136,8 +137,8 @@ module _ (identity : (a b : Resource) → IsTrue (same_record a b) ↔ SameRecor
   updates_left outcome (Err fault) old new h k u = subst (λ (z : MemoryZone). AllOf (zone_records z.sets)) (sym u.1) k
 
   pub names_stay : {V : Type 0} (by : Ghosts V) (request : ReceivedRequest) (now : ℕ) (answer : Result Bool UpdateFault) (context : Option TSigResponseContext) (old new : UpdatableZone V)
-      → (prescan_refusal old.zone.origin 1 (update_of request.message).updates ≡ None → AllOf (update_of request.message).updates)
-      → AnswersUpdate by old request now answer context new → AllOf (zone_records old.zone.sets) → AllOf (zone_records new.zone.sets)
+      → (prescan_refusal old.zone.origin (update_of request.message).updates ≡ None → AllOf (update_of request.message).updates)
+      → AnswersUpdate by old (request, now) answer context new → AllOf (zone_records old.zone.sets) → AllOf (zone_records new.zone.sets)
   names_stay by request now answer context old new k a h =
       let refusal : Option ℕ = (update_permission by old.verifier old.allow_update request now).refusal in
       updates_left (message_outcome refusal old.zone (update_of request.message)) answer old.zone new.zone (message_left refusal old.zone (update_of request.message) k h) h a.0

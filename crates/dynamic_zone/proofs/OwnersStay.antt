@@ -14,13 +14,13 @@ use Rattle.hickory_base.specs.requests.Requests.{ReceivedRequest}
 use Rattle.hickory_base.specs.requests.Updates.{update_of}
 use Rattle.hickory_base.specs.zone_store.ZoneSets.{zone_records}
 use Rattle.hickory_base.specs.declared.errors.UpdateFault.{UpdateFault}
-use Rattle.hickory_store.specs.Identity.{is_in_zone, same_record}
-use Rattle.hickory_store.specs.Prescan.{is_well_formed, prescan_refusal, update_refusal}
-use Rattle.hickory_store.specs.Refusals.{unless}
-use Rattle.hickory_store.specs.UpdatableZone.{UpdatableZone}
-use Rattle.hickory_store.specs.UpdateAnswers.{AnswersUpdate, UpdatesAll}
-use Rattle.hickory_store.specs.UpdateLaws.{HoldsIn}
-use Rattle.hickory_store.specs.declared.sqlite.verifier.Verifier.{Ghosts}
+use Rattle.hickory_store.specs.updates.Identity.{is_in_zone, same_record}
+use Rattle.hickory_store.specs.updates.Prescan.{is_well_formed, prescan_refusal, update_refusal}
+use Rattle.hickory_store.specs.updates.Refusals.{unless}
+use Rattle.hickory_store.specs.updates.UpdatableZone.{UpdatableZone}
+use Rattle.hickory_store.specs.updates.UpdateAnswers.{AnswersUpdate, UpdatesAll}
+use Rattle.hickory_store.specs.updates.UpdateLaws.{HoldsIn}
+use Rattle.hickory_store.specs.declared.updates.verifier.Verifier.{Ghosts}
 use Rattle.hickory_zone.specs.Zones.{IsOwner}
 use Rattle.dynamic_zone.specs.OwnerLaws.{AreOwned, IsNamed, IsOfItsBytes, OwnersStay}
 use Rattle.dynamic_zone.proofs.NamesStay.{names_stay, origin_stays}
@@ -45,27 +45,27 @@ read_names bytes (r ∷ rs) place next at = (record { qualified = at.1.name; lab
 
 module _ (zones : (origin name : DomainName) → IsTrue (is_in_zone origin name) ↔ Encloses origin.labels name.labels) (identity : (a b : Resource) → IsTrue (same_record a b) ↔ SameRecord a b) where
   -- what the prescan takes lies in the zone
-  scanned : (o : DomainName) (rs : Records) → AllByRecursion IsNamed rs → prescan_refusal o 1 rs ≡ None → AreOwned o rs
+  scanned : (o : DomainName) (rs : Records) → AllByRecursion IsNamed rs → prescan_refusal o rs ≡ None → AreOwned o rs
   scanned o [] named e = tt
   scanned o (r ∷ rs) named e = (
     record {
       qualified = named.0.qualified;
       labels = named.0.labels;
-      within = (zones o r.name).0 (inside (is_in_zone o r.name) (is_well_formed 1 r) (first_none (update_refusal o 1 r) (prescan_refusal o 1 rs) e));
+      within = (zones o r.name).0 (inside (is_in_zone o r.name) (is_well_formed r) (first_none (update_refusal o r) (prescan_refusal o rs) e));
     },
-    scanned o rs named.1 (rest_none (update_refusal o 1 r) (prescan_refusal o 1 rs) e),
+    scanned o rs named.1 (rest_none (update_refusal o r) (prescan_refusal o rs) e),
   )
 
   module _ {V : Type 0} (by : Ghosts V) where
     pub stay_named : (request : ReceivedRequest) (now : ℕ) (answer : Result Bool UpdateFault) (context : Option TSigResponseContext) (old new : UpdatableZone V)
-        → AllByRecursion IsNamed (update_of request.message).updates → AnswersUpdate by old request now answer context new → HoldsIn AreOwned old.zone → HoldsIn AreOwned new.zone
+        → AllByRecursion IsNamed (update_of request.message).updates → AnswersUpdate by old (request, now) answer context new → HoldsIn AreOwned old.zone → HoldsIn AreOwned new.zone
     stay_named request now answer context old new named a h =
         subst (λ o. AreOwned o (zone_records new.zone.sets)) (sym (origin_stays by request now answer context old new a))
         (names_stay identity (λ n t. IsOwner old.zone.origin (record { name = n; record_type = t })) (λ n m t same k. same_owner old.zone.origin n m t t same k)
         by request now answer context old new (scanned old.zone.origin (update_of request.message).updates named) a h)
 
     stay_one : (request : ReceivedRequest) (now : ℕ) (answer : Result Bool UpdateFault) (context : Option TSigResponseContext) (old new : UpdatableZone V)
-        → IsOfItsBytes request → AnswersUpdate by old request now answer context new → HoldsIn AreOwned old.zone → HoldsIn AreOwned new.zone
+        → IsOfItsBytes request → AnswersUpdate by old (request, now) answer context new → HoldsIn AreOwned old.zone → HoldsIn AreOwned new.zone
     stay_one request now answer context old new read a h =
         stay_named request now answer context old new (read_names request.bytes (update_of request.message).updates read.authorities_at read.additionals_at read.authorities) a h
 

@@ -1,7 +1,9 @@
--- What a zone that takes updates answers: what `hickory_zone` says of the zone that they leave, as long as each of its owner names may own records of it.
+-- What a zone that takes updates answers: what `hickory_zone` says of the zone that they leave, as long as each of its
+-- owner names may own records of it.
 use Rattle.std.specs.Prelude.{◌≡◌, ◌⊎◌, ℕ, Option, Some, None, Result, Ok, Err}
 use Rattle.std.specs.Bool.{MatchBool}
 use Rattle.wire_names.specs.rr.domain.DomainName.{DomainName}
+use Rattle.wire_messages.specs.Numbers.{code_not_auth}
 use Rattle.wire_messages.specs.declared.op.query.Query.{Query}
 use Rattle.wire_messages.specs.declared.rr.tsig.TSigResponseContext.{TSigResponseContext}
 use Rattle.hickory_base.specs.requests.Questions.{one_query}
@@ -13,8 +15,8 @@ use Rattle.hickory_base.specs.declared.errors.LookupError.TheVariants.{Memory, R
 use Rattle.hickory_base.specs.declared.zone_store.lookup.AuthLookup.{AuthLookup}
 use Rattle.hickory_base.specs.declared.zone_store.lookup.LookupControlFlow.TheVariants.{Break, Continue}
 use Rattle.hickory_base.specs.declared.zone_store.lookup.ZoneTransfer.{ZoneTransfer}
-use Rattle.hickory_store.specs.Permission.{Permission}
-use Rattle.hickory_store.specs.TransferAnswers.{SoaTransferredAs, TransferredAs}
+use Rattle.hickory_store.specs.updates.Permission.{Permission}
+use Rattle.hickory_store.specs.updates.TransferAnswers.{SoaTransferredAs, TransferredAs}
 use Rattle.hickory_zone.specs.Handled.{IsLookedUp, StandsFor, is_by_soa, names_zone}
 use Rattle.hickory_zone.specs.Replies.{zone_of}
 use Rattle.hickory_zone.specs.Zones.{AreOwners}
@@ -38,13 +40,14 @@ Searched zone request answer = SearchedFor zone (one_query request.message.queri
 abbrev pub LookedUp : MemoryZone → DomainName → ℕ → Flow → Type 0
 LookedUp zone name t answer = (result : _) × (IsFound zone name t result ⊎ (result ≡ Err Memory)) × (answer ≡ Continue result)
 
--- What is given for a transfer of the zone: as by the handler that takes its updates, and the SOA alone where that is enough.
+-- What is given for a transfer of the zone: as by the handler that takes its updates, and the SOA alone where that is
+-- enough.
 abbrev pub IsGiven : MemoryZone → Permission → ReceivedRequest → Query → Option (Result ZoneTransfer LookupError × Option TSigResponseContext) → Type 0
 IsGiven zone permission request query answer = MatchBool (is_by_soa zone request query) (SoaTransferredAs zone permission answer) (TransferredAs zone permission answer)
 
--- A transfer is given of the zone; of any other name the server holds no zone: NOTAUTH, which is 9 (RFC 5936 section 2.2.1).
+-- A transfer is given of the zone; of any other name the server holds no zone: NOTAUTH (RFC 5936 section 2.2.1).
 abbrev pub TransferredFor : MemoryZone → Permission → ReceivedRequest → Result Query LookupError → Option (Result ZoneTransfer LookupError × Option TSigResponseContext) → Type 0
-TransferredFor zone permission request (Ok query) answer = MatchBool (names_zone (zone_of zone) query) (IsGiven zone permission request query answer) (answer ≡ Some (Err (ResponseCode 9), None))
+TransferredFor zone permission request (Ok query) answer = MatchBool (names_zone (zone_of zone) query) (IsGiven zone permission request query answer) (answer ≡ Some (Err (ResponseCode code_not_auth), None))
 TransferredFor zone permission request (Err e) answer = answer ≡ Some (Err e, None)
 
 abbrev pub TransferAnswered : MemoryZone → Permission → ReceivedRequest → Option (Result ZoneTransfer LookupError × Option TSigResponseContext) → Type 0

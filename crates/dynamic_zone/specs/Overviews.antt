@@ -5,10 +5,10 @@ use Rattle.hickory_base.specs.requests.Requests.{ReceivedRequest}
 use Rattle.hickory_base.specs.zone_store.ZoneAnswers.{MemoryZone}
 use Rattle.hickory_base.specs.zone_store.ZoneSets.{AreSetsInOrder, IsZone}
 use Rattle.hickory_base.specs.declared.errors.UpdateFault.{UpdateFault}
-use Rattle.hickory_store.specs.UpdatableZone.{UpdatableZone}
-use Rattle.hickory_store.specs.UpdateAnswers.{AnswersUpdate}
-use Rattle.hickory_store.specs.declared.sqlite.verifier.Verifier.{Ghosts}
-use Rattle.hickory_zone.specs.Features.{AreFeatures}
+use Rattle.hickory_store.specs.updates.UpdatableZone.{UpdatableZone}
+use Rattle.hickory_store.specs.updates.UpdateAnswers.{AnswersUpdate}
+use Rattle.hickory_store.specs.declared.updates.verifier.Verifier.{Ghosts}
+use Rattle.hickory_zone.specs.representation.Features.{AreFeatures}
 use Rattle.hickory_zone.specs.Replies.{zone_of}
 use Rattle.hickory_zone.specs.Zones.{AreOwners}
 use Rattle.dynamic_zone.specs.declared.overview.Overview.{Overview}
@@ -17,8 +17,9 @@ use Rattle.dynamic_zone.specs.declared.overview.Overview.{Overview}
 abbrev pub IsOverview : MemoryZone → Overview → Type 0
 IsOverview zone overview = AreFeatures (zone_of zone) overview.has × (IsTrue overview.is_owned ↔ AreOwners zone.origin zone.sets)
 
--- This request may have left the zone `new`. Of each zone that it was made in, with this overview, the zone that it left has that one.
+-- This request may have left the zone `new`. Of each zone that it was made in, with this overview, the zone that it
+-- left has that one.
 abbrev pub Follows : {V : Type 0} → Ghosts V → ReceivedRequest → UpdatableZone V → Overview → Overview → Type 0
 Follows {V} by request new before overview =
     (old : UpdatableZone V) (now : ℕ) (answer : Result Bool UpdateFault) (context : Option TSigResponseContext)
-    → IsZone old.zone.sets → AreSetsInOrder old.zone.sets → AnswersUpdate by old request now answer context new → IsOverview old.zone before → IsOverview new.zone overview
+    → IsZone old.zone.sets → AreSetsInOrder old.zone.sets → AnswersUpdate by old (request, now) answer context new → IsOverview old.zone before → IsOverview new.zone overview

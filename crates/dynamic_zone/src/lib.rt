@@ -1,10 +1,11 @@
-//! A zone that takes dynamic updates (RFC 2136) and answers standard queries as an authoritative server does (RFC 1034 section 4.3.2).
+//! A zone that takes dynamic updates (RFC 2136) and answers standard queries as an authoritative server does (RFC 1034
+//! section 4.3.2).
 #![tactic(auto)]
 
 ghost use Rattle.std.specs.Prelude.{◌≡◌, ◌≢◌, None, Ok, false, true};
 ghost use Rattle.hickory_base.specs.declared.zone_store.lookup.LookupControlFlow.TheVariants.{Skip};
-ghost use Rattle.hickory_store.specs.Permission.{transfer_permission};
-ghost use Rattle.hickory_store.specs.UpdateAnswers.{AnswersUpdate};
+ghost use Rattle.hickory_store.specs.updates.Permission.{transfer_permission};
+ghost use Rattle.hickory_store.specs.updates.UpdateAnswers.{AnswersUpdate};
 ghost use Rattle.dynamic_zone.specs.DynamicZones.{LookedUp, Searched, TransferAnswered};
 
 pub mod laws;
@@ -16,7 +17,7 @@ use hickory_base::zone_store::{
     AuthLookup, AxfrPolicy, LookupControlFlow, LookupOptions, Nsec3QueryInfo, NxProofKind,
     ZoneHandler, ZoneTransfer, ZoneType,
 };
-use hickory_store::sqlite::{SqliteZoneHandler, Verifier};
+use hickory_store::updates::{UpdatableZoneHandler, Verifier};
 use hickory_wire::{LowerName, RecordType, TSigResponseContext};
 pub use overview::{Overview, read_sets, transfer};
 use std::alloc::Global;
@@ -25,12 +26,12 @@ use std::marker::Model;
 /// A zone that takes updates, and answers standard queries in the zone that they leave.
 #[derive(Drop)]
 pub struct DynamicZone<V: Verifier> {
-    updatable: SqliteZoneHandler<V>,
+    updatable: UpdatableZoneHandler<V>,
     overview: Overview,
 }
 
 impl<V: Verifier> Model for DynamicZone<V> {
-    ghost use Rattle.hickory_store.specs.UpdatableZone.{UpdatableZone};
+    ghost use Rattle.hickory_store.specs.updates.UpdatableZone.{UpdatableZone};
     ghost use Rattle.dynamic_zone.specs.Overviews.{IsOverview};
 
     ghost Value = { UpdatableZone V };
@@ -50,7 +51,7 @@ pub fn has_changed(answer: &Result<bool, UpdateFault>) -> bool
 
 impl<V: Verifier> DynamicZone<V> {
     /// The zone that this handler keeps, which goes on to be updated. It takes no memory.
-    pub fn new(updatable: SqliteZoneHandler<V>) -> DynamicZone<V>
+    pub fn new(updatable: UpdatableZoneHandler<V>) -> DynamicZone<V>
         ensures { result ≡ updatable }
     {
         let overview = Overview::of(updatable.in_memory());
@@ -61,14 +62,14 @@ impl<V: Verifier> DynamicZone<V> {
     }
 
     /// The handler that takes its updates.
-    pub fn updatable(&self) -> &SqliteZoneHandler<V>
+    pub fn updatable(&self) -> &UpdatableZoneHandler<V>
         ensures { result.now ≡ self.now }
     {
         &self.updatable
     }
 
     /// The handler that it was made of, with the zone as its updates left it.
-    pub fn into_updatable(self) -> SqliteZoneHandler<V>
+    pub fn into_updatable(self) -> UpdatableZoneHandler<V>
         ensures { result ≡ self }
     {
         self.updatable
@@ -88,17 +89,21 @@ impl<V: Verifier> ZoneHandler for DynamicZone<V> {
 
     ghost lookup_gives = { λ handler name record_type _ _ answer. LookedUp handler.zone name record_type answer };
 
-    ghost search_gives = { λ handler request _ answer context. Searched handler.zone request answer × (context ≡ None) };
+    ghost search_gives = { λ handler request _ answer context. Searched handler.zone request answer ×
+        (context ≡ None) };
 
     ghost consult_gives = { λ _ _ _ _ _ last answer context. (answer ≡ last) × (context ≡ None) };
 
-    ghost transfer_gives = { λ handler request _ now answer. TransferAnswered handler.zone (transfer_permission V.Verifier handler.verifier handler.axfr_policy request now) request answer };
+    ghost transfer_gives = { λ handler request _ now answer.
+        TransferAnswered handler.zone (transfer_permission V.Verifier handler.verifier handler.axfr_policy request now)
+        request answer };
 
     ghost nsec_gives = { λ _ _ _ answer. answer ≡ Skip };
 
     ghost nsec3_gives = { λ _ _ _ answer. answer ≡ Skip };
 
-    ghost update_gives = { AnswersUpdate V.Verifier };
+    ghost update_gives = { λ old request now answer context new.
+        AnswersUpdate V.Verifier old (request, now) answer context new };
 
     fn zone_type(&self) -> ZoneType {
         self.updatable.zone_type()

@@ -3,8 +3,8 @@
 ghost use Rattle.std.specs.Prelude.{◌≡◌, ◌⊎◌, ◌↔◌, All, Err, IsTrue};
 ghost use Rattle.hickory_base.specs.zone_store.ZoneSets.{AreSetsInOrder, IsZone};
 ghost use Rattle.hickory_base.specs.declared.errors.LookupError.TheVariants.{Memory};
-ghost use Rattle.hickory_store.specs.Permission.{transfer_permission};
-ghost use Rattle.hickory_zone.specs.Features.{AreFeatures};
+ghost use Rattle.hickory_store.specs.updates.Permission.{transfer_permission};
+ghost use Rattle.hickory_zone.specs.representation.Features.{AreFeatures};
 ghost use Rattle.hickory_zone.specs.Replies.{zone_of};
 ghost use Rattle.hickory_zone.specs.Zones.{AreOwners};
 ghost use Rattle.dynamic_zone.specs.DynamicZones.{IsAnswered, IsFound, IsGiven, LookedUp, Searched, TransferAnswered};
@@ -17,14 +17,15 @@ use hickory_base::update_request::UpdateRequest;
 use hickory_base::zone_store::{
     AuthLookup, InMemoryZoneHandler, LookupControlFlow, LookupOptions, ZoneHandler, ZoneTransfer,
 };
-use hickory_store::sqlite::laws::identities;
-use hickory_store::sqlite::{SqliteZoneHandler, Verifier};
+use hickory_store::updates::laws::identities;
+use hickory_store::updates::{UpdatableZoneHandler, Verifier};
 use hickory_wire::{LowerName, LowerQuery, Record, RecordType, ResponseCode, TSigResponseContext};
 use hickory_zone::handled::{is_by_soa, names_zone, records, whole};
 use hickory_zone::{Features, are_owners, features_of, with_records};
 use std::alloc::Global;
 
-/// What is known of a zone as a whole: by it the zone answers standard queries (RFC 1034 section 4.3.2), and it is kept while the zone takes updates.
+/// What is known of a zone as a whole: by it the zone answers standard queries (RFC 1034 section 4.3.2), and it is kept
+/// while the zone takes updates.
 #[derive(Clone, Copy)]
 pub struct Overview {
     /// What the zone has at all.
@@ -50,7 +51,7 @@ fn is_named(r: &Record) -> bool
     r.name.is_fqdn()
 }
 
-/// The same of all records.
+/// Whether the owner names of all records are fully qualified.
 fn are_named(records: &[Record]) -> bool
     ensures { IsTrue result ↔ All IsNamed records.now }
 {
@@ -69,9 +70,9 @@ impl Overview {
         }
     }
 
-    /// The overview of the zone that an update has changed, from that of before: it takes time by the records of the update, or by the zone's sets where
-    /// an owner name lies outside it.
-    pub fn after<V: Verifier>(self, zone: &SqliteZoneHandler<V>, request: &Request) -> Overview
+    /// The overview of the zone that an update has changed, from that of before: it takes time by the records of the
+    /// update, or by the zone's sets where an owner name lies outside it.
+    pub fn after<V: Verifier>(self, zone: &UpdatableZoneHandler<V>, request: &Request) -> Overview
         ensures { Follows V.Verifier request.now zone.now self result }
     {
         read_sets(zone.in_memory());
@@ -154,7 +155,7 @@ impl Overview {
 /// What is given for a transfer of a zone that takes updates: its SOA record alone where that is enough.
 fn given<V: Verifier>(
     alloc: Global,
-    updatable: &SqliteZoneHandler<V>,
+    updatable: &UpdatableZoneHandler<V>,
     request: &Request,
     query: &LowerQuery,
     options: LookupOptions,
@@ -165,7 +166,9 @@ fn given<V: Verifier>(
         Option<TSigResponseContext>,
     ),
 >
-    ensures { IsGiven updatable.now.zone (transfer_permission V.Verifier updatable.now.verifier updatable.now.axfr_policy request.now now) request.now query.now result }
+    ensures { IsGiven updatable.now.zone
+        (transfer_permission V.Verifier updatable.now.verifier updatable.now.axfr_policy request.now now) request.now
+        query.now result }
 {
     if is_by_soa(updatable.in_memory(), request, query) {
         Some(updatable.soa_transfer(alloc, request, now))
@@ -174,9 +177,10 @@ fn given<V: Verifier>(
     }
 }
 
-/// Transfers the zone where a request names it, or its SOA record alone where that is enough; of any other name the answer is NOTAUTH (RFC 5936 section 2.2.1). `now` is in seconds since 1970.
+/// Transfers the zone where a request names it, or its SOA record alone where that is enough; of any other name the
+/// answer is NOTAUTH (RFC 5936 section 2.2.1). `now` is in seconds since 1970.
 pub fn transfer<V: Verifier>(
-    zone: &SqliteZoneHandler<V>,
+    zone: &UpdatableZoneHandler<V>,
     alloc: Global,
     request: &Request,
     options: LookupOptions,
@@ -187,7 +191,8 @@ pub fn transfer<V: Verifier>(
         Option<TSigResponseContext>,
     ),
 >
-    ensures { TransferAnswered zone.now.zone (transfer_permission V.Verifier zone.now.verifier zone.now.axfr_policy request.now now) request.now result }
+    ensures { TransferAnswered zone.now.zone
+        (transfer_permission V.Verifier zone.now.verifier zone.now.axfr_policy request.now now) request.now result }
 {
     let query = match request.request_info() {
         Ok(info) => info.query,

@@ -9,8 +9,8 @@ use hex::FromHexError;
 use std::alloc::{AllocError, Global};
 use wire_names::values::octets::Octets;
 
-/// The bytes that hex digits stand for, two digits each in either letter case, or `None` where there is something else or an odd number of
-/// digits. It takes as much memory as there are bytes; an error says that it was refused.
+/// The bytes that hex digits stand for, two digits each in either letter case, or `None` where there is something else
+/// or an odd number of digits. It takes as much memory as there are bytes; an error says that it was refused.
 pub fn bytes_of(alloc: Global, digits: &[u8]) -> Result<Option<Vec<u8>>, AllocError>
     ensures some { IfOk result (λ bytes. IfSome bytes (λ it. decode_of digits.now ≡ Ok it.items)) }
     ensures none { IfOk result (λ bytes. IfNone bytes (¬ (IsOk (decode_of digits.now)))) }

@@ -1,4 +1,5 @@
 pub mod Failures
+pub mod representation
 pub mod requests
 pub mod responses
 pub mod zone_store

@@ -1,6 +1,5 @@
 -- Requests and what is read and written of them.
 pub mod MessageSameness
-pub mod QuestionList
 pub mod Questions
 pub mod RepeatableQuestions
 pub mod RequestForm

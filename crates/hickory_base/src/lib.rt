@@ -1,4 +1,5 @@
-//! What the zone service stands on beside the messages themselves: errors, access lists, requests, replies, the sink, the zone store.
+//! What the zone service stands on beside the messages themselves: errors, access lists, requests, replies, the sink,
+//! the zone store.
 #![tactic(auto)]
 
 pub mod errors;

@@ -1,4 +1,5 @@
-//! Requests: the message of a request, how it is read and written, when two are equal, and its sections as a dynamic update.
+//! Requests: the message of a request, how it is read and written, when two are equal, and its sections as a dynamic
+//! update.
 
 pub mod message_request;
 pub mod message_sameness;

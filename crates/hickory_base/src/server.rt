@@ -33,7 +33,13 @@ impl Model for Request {
 
     ghost Value = { ReceivedRequest };
 
-    ghost view = { λ r. record { message = r.message; bytes = r.bytes; source = r.source; protocol = r.protocol; was_read = r.was_read } };
+    ghost view = { λ r. record {
+      message = r.message;
+      bytes = r.bytes;
+      source = r.source;
+      protocol = r.protocol;
+      was_read = r.was_read;
+    } };
 
     ghost invariant = { λ r. r.was_read ≡ true → Reads r.bytes (message_of r.message) };
 }
@@ -46,7 +52,14 @@ impl Request {
         source: SocketAddr,
         protocol: Protocol,
     ) -> Request
-        ensures { result ≡ record { message = message; bytes = bytes; source = source; protocol = protocol; was_read = false } }
+        ensures { result ≡ record {
+          message = message;
+          bytes = bytes;
+          source = source;
+          protocol = protocol;
+          was_read =
+              false;
+        } }
     {
         Request {
             message,
@@ -57,8 +70,8 @@ impl Request {
         }
     }
 
-    /// Whether its message was read from its bytes, as [`Request::from_bytes`] and [`Request::read_in_place`] read it. One that was put together need not read back
-    /// as it is.
+    /// Whether its message was read from its bytes, as [`Request::from_bytes`] and [`Request::read_in_place`] read it.
+    /// One that was put together need not read back as it is.
     pub fn was_read(&self) -> bool
         ensures value { result ≡ self.now.was_read }
         ensures read { self.now.was_read ≡ true → Reads self.now.bytes (message_of self.now.message) }
@@ -133,7 +146,8 @@ impl<'a> RequestInfo<'a> {
         metadata: &'a Metadata,
         query: &'a LowerQuery,
     ) -> RequestInfo<'a>
-        ensures { information_of result ≡ record { source = src; protocol = protocol; metadata = metadata.now; query = query.now } }
+        ensures { information_of result ≡ record
+            { source = src; protocol = protocol; metadata = metadata.now; query = query.now } }
     {
         RequestInfo {
             src,

@@ -2,11 +2,11 @@
 
 ghost use Rattle.std.specs.Prelude.{◌≡◌, false, IfOk, IfErr, Ok, Err, None};
 ghost use Rattle.hickory_base.specs.zone_store.Lookups.{Flow, answers_of};
-ghost use Rattle.hickory_catalog.specs.Authoritative.{AuthoritativeReply, BesideAnswer, additional_section, authoritative_metadata, is_referral, negative_code, negative_contents, positive_contents, refusal_code};
+ghost use Rattle.hickory_catalog.specs.queries.Authoritative.{AuthoritativeReply, BesideAnswer, additional_section, authoritative_metadata, is_referral, negative_code, negative_contents, positive_contents, refusal_code};
 ghost use Rattle.hickory_base.specs.declared.zone_store.lookup.LookupControlFlow.TheVariants.{Continue};
-ghost use Rattle.hickory_catalog.specs.Denying.{DenialOfNegative, records_given};
-ghost use Rattle.hickory_catalog.specs.Replies.{contents_of};
-ghost use Rattle.hickory_catalog.specs.Transcripts.{options_of, wants_memory};
+ghost use Rattle.hickory_catalog.specs.queries.DenialRecords.{DenialOfNegative, records_given};
+ghost use Rattle.hickory_catalog.specs.replies.Replies.{contents_of};
+ghost use Rattle.hickory_catalog.specs.queries.Transcripts.{options_of, wants_memory};
 
 use crate::chains::{is_memory, options_of};
 use crate::contents::ReplyContents;
@@ -102,7 +102,8 @@ fn records_in<'z>(
     alloc: Global,
     outcome: &mut Result<AuthLookup<'z>, LookupError>,
 ) -> Result<RecordList<'z>, CatalogError>
-    ensures given { IfOk result (λ records. (records ≡ records_given (Continue outcome.old)) × (wants_memory (Continue outcome.old) ≡ false)) }
+    ensures given { IfOk result (λ records. (records ≡ records_given (Continue outcome.old)) ×
+        (wants_memory (Continue outcome.old) ≡ false)) }
     ensures refused { IfErr result (λ e. e ≡ CatalogError.Memory) }
 {
     match outcome {
@@ -117,7 +118,8 @@ fn records_in<'z>(
     }
 }
 
-/// The records of a handler's answer, which are taken out, none where it is an error or a `Skip`. Want of memory ends the call.
+/// The records of a handler's answer, which are taken out, none where it is an error or a `Skip`. Want of memory ends
+/// the call.
 fn records_given<'z>(
     alloc: Global,
     answer: &mut LookupControlFlow<AuthLookup<'z>>,
@@ -140,7 +142,8 @@ fn positive_contents<'z>(
     found: &mut AuthLookup<'z>,
     beside: RecordList<'z>,
 ) -> ReplyContents<'z>
-    ensures { (given : Flow) → records_given given ≡ beside.entry → contents_of result ≡ positive_contents request.now query_type found.old given }
+    ensures { (given : Flow) → records_given given ≡ beside.entry →
+        contents_of result ≡ positive_contents request.now query_type found.old given }
 {
     let additionals = take_additionals(found);
     let answers = take_answers(alloc, found);
@@ -183,7 +186,9 @@ fn records_beside<'z, H: ZoneHandler>(
     found: &AuthLookup<'_>,
     options: LookupOptions,
 ) -> Result<RecordList<'z>, CatalogError>
-    ensures given { IfOk result (λ records. (beside : Flow) × BesideAnswer H.ZoneHandler handler.now query.now options found.now beside × (records ≡ records_given beside) × (wants_memory beside ≡ false)) }
+    ensures given { IfOk result (λ records. (beside : Flow) ×
+        BesideAnswer H.ZoneHandler handler.now query.now options found.now beside × (records ≡ records_given beside) ×
+        (wants_memory beside ≡ false)) }
     ensures refused { IfErr result (λ e. e ≡ CatalogError.Memory) }
 {
     let is_soa = query.query_type().value() == RecordType::SOA.value();
@@ -206,7 +211,8 @@ fn found_contents<'z, H: ZoneHandler>(
     query: &LowerQuery,
     found: &mut AuthLookup<'z>,
 ) -> Result<ReplyContents<'z>, CatalogError>
-    ensures replied { IfOk result (λ contents. AuthoritativeReply H.ZoneHandler handler.now request.now query.now (contents_of contents) (Ok found.old)) }
+    ensures replied { IfOk result (λ contents. AuthoritativeReply H.ZoneHandler handler.now request.now query.now
+        (contents_of contents) (Ok found.old)) }
     ensures refused { IfErr result (λ e. e ≡ CatalogError.Memory) }
 {
     let beside = records_beside(handler, alloc, query, found, options_of(request))?;
@@ -221,7 +227,9 @@ fn denial_records<'z, H: ZoneHandler>(
     query: &LowerQuery,
     options: LookupOptions,
 ) -> Result<RecordList<'z>, CatalogError>
-    ensures given { IfOk result (λ records. (denial : Flow) × DenialOfNegative H.ZoneHandler handler.now query.now options denial × (records ≡ records_given denial) × (wants_memory denial ≡ false)) }
+    ensures given { IfOk result (λ records. (denial : Flow) ×
+        DenialOfNegative H.ZoneHandler handler.now query.now options denial × (records ≡ records_given denial) ×
+        (wants_memory denial ≡ false)) }
     ensures refused { IfErr result (λ e. e ≡ CatalogError.Memory) }
 {
     // Mostly none is asked for, and no room is made for it.
@@ -243,7 +251,8 @@ fn negative_contents<'z>(
     soa: &mut LookupControlFlow<AuthLookup<'z>>,
 ) -> Result<ReplyContents<'z>, CatalogError>
     ensures replied { IfOk result (λ contents. (wants_memory soa.old ≡ false) ×
-        ((given : Flow) → records_given given ≡ denial.entry → contents_of contents ≡ negative_contents request.now e.now given soa.old)) }
+        ((given : Flow) → records_given given ≡ denial.entry →
+        contents_of contents ≡ negative_contents request.now e.now given soa.old)) }
     ensures refused { IfErr result (λ e. e ≡ CatalogError.Memory) }
 {
     let mut denial = denial;
@@ -269,7 +278,8 @@ fn nothing_contents<'z, H: ZoneHandler>(
     e: &LookupError,
 ) -> Result<ReplyContents<'z>, CatalogError>
     requires { refusal_code e.now ≡ None }
-    ensures replied { IfOk result (λ contents. AuthoritativeReply H.ZoneHandler handler.now request.now query.now (contents_of contents) (Err e.now)) }
+    ensures replied { IfOk result (λ contents. AuthoritativeReply H.ZoneHandler handler.now request.now query.now
+        (contents_of contents) (Err e.now)) }
     ensures refused { IfErr result (λ e. e ≡ CatalogError.Memory) }
 {
     let options = options_of(request);
@@ -288,7 +298,8 @@ pub(crate) fn authoritative_contents<'z, H: ZoneHandler>(
     query: &LowerQuery,
     outcome: &mut Result<AuthLookup<'z>, LookupError>,
 ) -> Result<ReplyContents<'z>, CatalogError>
-    ensures replied { IfOk result (λ contents. AuthoritativeReply H.ZoneHandler handler.now request.now query.now (contents_of contents) outcome.old) }
+    ensures replied { IfOk result (λ contents. AuthoritativeReply H.ZoneHandler handler.now request.now query.now
+        (contents_of contents) outcome.old) }
     ensures refused { IfErr result (λ e. e ≡ CatalogError.Memory) }
 {
     match outcome {

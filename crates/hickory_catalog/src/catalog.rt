@@ -5,15 +5,15 @@ ghost use Rattle.std.specs.List.{AllByRecursion};
 ghost use Rattle.std.specs.Option.{option_copied};
 ghost use Rattle.wire_messages.specs.serialize.writing.Reply.{Reply};
 ghost use Rattle.hickory_base.specs.responses.Responses.{header_of};
-ghost use Rattle.hickory_catalog.specs.Find.{Finds};
-ghost use Rattle.hickory_catalog.specs.Queries.{QueryAnswered};
-ghost use Rattle.hickory_catalog.specs.ReplyEdns.{reply_edns};
-ghost use Rattle.hickory_catalog.specs.Requests.{BelongsTo, RequestAnswered, RequestLeaves};
-ghost use Rattle.hickory_catalog.specs.Sending.{IsUntouched, Sends, SendsInOrder};
-ghost use Rattle.hickory_catalog.specs.Server.{server_of};
-ghost use Rattle.hickory_catalog.specs.Updates.{UpdateAnswered, UpdateLeaves};
-ghost use Rattle.hickory_catalog.specs.WholeTransfers.{TransferReplies};
-ghost use Rattle.hickory_catalog.specs.Zones.{AreInOrder, ChangesAt, HasZone};
+ghost use Rattle.hickory_catalog.specs.zones.Find.{Finds};
+ghost use Rattle.hickory_catalog.specs.queries.Queries.{QueryAnswered};
+ghost use Rattle.hickory_catalog.specs.replies.ReplyEdns.{reply_edns};
+ghost use Rattle.hickory_catalog.specs.requests.Requests.{BelongsTo, RequestAnswered, RequestLeaves};
+ghost use Rattle.hickory_catalog.specs.replies.Sending.{IsUntouched, Sends, SendsInOrder};
+ghost use Rattle.hickory_catalog.specs.requests.Server.{server_of};
+ghost use Rattle.hickory_catalog.specs.updates.Updates.{UpdateAnswered, UpdateLeaves};
+ghost use Rattle.hickory_catalog.specs.transfers.WholeTransfers.{TransferReplies};
+ghost use Rattle.hickory_catalog.specs.zones.Zones.{AreInOrder, ChangesAt, HasZone};
 
 use crate::edns::{cloned, reply_edns};
 use crate::queries::answer_query;
@@ -32,9 +32,9 @@ use std::alloc::{AllocError, Global};
 /// The zones that a server answers for, each with the chain of its handlers, what identifies the server, and what signs
 /// its replies.
 ///
-/// Its handlers are boxed, so that one chain may have handlers of several types; a catalog whose handlers are all of one
-/// type may name that type. Contracts see `zones` as the list of zone apexes with their handlers, in the order of names,
-/// `nsid` as bytes.
+/// Its handlers are boxed, so that one chain may have handlers of several types; a catalog whose handlers are all of
+/// one type may name that type. Contracts see `zones` as the list of zone apexes with their handlers, in the order of
+/// names, `nsid` as bytes.
 #[derive(Drop)]
 pub struct Catalog<S: ReplySigner, H: ZoneHandler = Box<dyn ZoneHandler>> {
     pub(crate) zones: Zones<H>,
@@ -54,15 +54,20 @@ impl<S: ReplySigner, H: ZoneHandler> Catalog<S, H> {
         }
     }
 
-    /// Puts a chain of handlers at a zone apex, and hands back the chain that was there. Where memory is refused, nothing
-    /// changes and both arguments are handed back.
+    /// Puts a chain of handlers at a zone apex, and hands back the chain that was there. The time grows with the
+    /// logarithm of the number of zones.
+    ///
+    /// # Errors
+    ///
+    /// Where memory is refused, nothing changes and both arguments are handed back.
     pub fn upsert(
         &mut self,
         name: LowerName,
         handlers: Vec<H>,
     ) -> Result<Option<Vec<H>>, (LowerName, Vec<H>)>
         ensures changed { IfOk result
-            (λ old. ChangesAt self.old.zones name (option_map (λ chain. chain.items) old) (Some handlers.items) self.new.zones) }
+            (λ old. ChangesAt self.old.zones name (option_map (λ chain. chain.items) old)
+            (Some handlers.items) self.new.zones) }
         ensures handed_back { IfErr result (λ both. both ≡ (name, handlers)) }
         ensures err { OnErr result (self.new.zones ≡ self.old.zones) }
         ensures others { self.new ≡ record self.old { zones = self.new.zones } }
@@ -72,7 +77,8 @@ impl<S: ReplySigner, H: ZoneHandler> Catalog<S, H> {
 
     /// Takes the chain of handlers at a zone apex away, if there is one, and hands it back. It takes no memory.
     pub fn remove(&mut self, name: &LowerName) -> Option<Vec<H>>
-        ensures changed { ChangesAt self.old.zones name.now (option_map (λ chain. chain.items) result) None self.new.zones }
+        ensures changed { ChangesAt self.old.zones name.now (option_map (λ chain. chain.items) result) None
+            self.new.zones }
         ensures others { self.new ≡ record self.old { zones = self.new.zones } }
     {
         self.zones.remove(name)
@@ -89,13 +95,15 @@ impl<S: ReplySigner, H: ZoneHandler> Catalog<S, H> {
     /// nearest above it or at it (RFC 1034 section 4.3.2, step 2), and for another name the zone of that very name.
     #[inline(always)]
     pub fn find(&self, name: &LowerName) -> Result<Option<&Vec<H>>, AllocError>
-        ensures found { IfOk result (λ found. Finds self.now.zones name.now (option_map (λ chain. chain.now.items) found)) }
+        ensures found { IfOk result (λ found.
+            Finds self.now.zones name.now (option_map (λ chain. chain.now.items) found)) }
         ensures ordered { AreInOrder self.now.zones }
     {
         self.zones.find(name)
     }
 
-    /// The zones stand in the order of their names, each name once, as those of any catalog do. It does nothing: laws of zones ask for this.
+    /// The zones stand in the order of their names, each name once, as those of any catalog do. It does nothing: laws
+    /// of zones ask for this.
     pub fn zones_in_order(&self)
         ensures { AreInOrder self.now.zones }
     {
@@ -116,30 +124,33 @@ impl<S: ReplySigner, H: ZoneHandler> Catalog<S, H> {
         self.nsid.as_ref()
     }
 
-    /// Answers a query by the handlers of its zone, and hands the sink one reply, or those of a transfer, with this EDNS.
-    /// `now` is in seconds since 1970. QR, opcode and EDNS version of the request are not looked at. The reply's OPT record has the high bits of
-    /// its response code (RFC 6891 section 6.1.3).
+    /// Answers a query by the handlers of its zone, and hands the sink one reply, or those of a transfer, with this
+    /// EDNS. `now` is in seconds since 1970. QR, opcode and EDNS version of the request are not looked at. The reply's
+    /// OPT record has the high bits of its response code (RFC 6891 section 6.1.3).
     ///
     /// Where there is not just one question the reply is FormErr, where no zone answers for the name Refused. Else the
     /// handlers of the zone are asked from left to right until one answers; after its `Continue` each other one is
-    /// consulted, from left to right, about the answer so far, and where nobody answers in the end the reply is ServFail.
-    /// The handler that was asked makes the reply: a primary or secondary one with AA, with denials where they are wanted
-    /// (RFC 4035 section 3.1.3) and the SOA of the zone in a negative reply (RFC 2308 section 3), an external one with RA,
-    /// judged by DNSSEC proofs where it validates (RFC 4035 section 3.2); without RD its reply is Refused. Searches and
-    /// further lookups are told DO of the request's EDNS, consults DO of the reply's.
+    /// consulted, from left to right, about the answer so far, and where nobody answers in the end the reply is
+    /// ServFail. The handler that was asked makes the reply: a primary or secondary one with AA, with denials where
+    /// they are wanted (RFC 4035 section 3.1.3) and the SOA of the zone in a negative reply (RFC 2308 section 3), an
+    /// external one with RA, judged by DNSSEC proofs where it validates (RFC 4035 section 3.2); without RD its reply is
+    /// Refused. Searches and further lookups are told DO of the request's EDNS, consults DO of the reply's.
     ///
-    /// A transfer, of type AXFR, is asked of the handlers from left to right until one gives it or says why not; where none
-    /// does, the reply is ServFail. The reply has AA and the records of the zone as answers (RFC 5936 section 2.2), or a
-    /// code without AA and without records. A transfer that is given over another transport than UDP, without a context for
-    /// the signer, is sent in as many replies as it takes, which say the same but for their answers: each takes the next
-    /// records as long as it fits 65,535 bytes with every name in full, and one at least.
+    /// A transfer, of type AXFR, is asked of the handlers from left to right until one gives it or says why not; where
+    /// none does, the reply is ServFail. The reply has AA and the records of the zone as answers (RFC 5936 section
+    /// 2.2), or a code without AA and without records. A transfer that is given over another transport than UDP,
+    /// without a context for the signer, is sent in as many replies as it takes, which say the same but for their
+    /// answers: each takes the next records as long as it fits 65,535 bytes with every name in full, and one at least.
     ///
-    /// Where the answer came with a context for the signer, the reply is written without a signature, within 65,535 bytes,
-    /// and signed (RFC 8945 section 5.3). Where it cannot be written, or the signer fails, it is ServFail without records
-    /// and without a signature. ServFail for want of an answer is not signed.
+    /// Where the answer came with a context for the signer, the reply is written without a signature, within 65,535
+    /// bytes, and signed (RFC 8945 section 5.3). Where it cannot be written, or the signer fails, it is ServFail
+    /// without records and without a signature. ServFail for want of an answer is not signed.
     ///
-    /// Where the sink fails the answer tells of ServFail, and no further reply is handed over. `Memory` says that no reply
-    /// was handed over.
+    /// Where the sink fails the answer tells of ServFail, and no further reply is handed over.
+    ///
+    /// # Errors
+    ///
+    /// `Memory` says that no reply was handed over.
     pub fn lookup<R: ResponseHandler>(
         &self,
         alloc: Global,
@@ -149,20 +160,24 @@ impl<S: ReplySigner, H: ZoneHandler> Catalog<S, H> {
         sink: &mut R,
     ) -> Result<ResponseInfo, CatalogError>
         ensures replied { IfOk result (λ info. (replies : List Reply) ×
-            QueryAnswered (server_of H.ZoneHandler S.signature_for self.now) request.now (option_copied edns.entry) now replies self.now.zones × AllByRecursion (BelongsTo request.now (option_copied edns.entry)) replies ×
+            QueryAnswered (server_of H.ZoneHandler S.signature_for self.now) request.now
+            (option_copied edns.entry) now replies self.now.zones ×
+            AllByRecursion (BelongsTo request.now (option_copied edns.entry)) replies ×
             SendsInOrder R.ResponseHandler request.now.message.metadata sink.old sink.new replies (header_of info)) }
-        ensures refused { IfErr result (λ e. (e ≡ CatalogError.Memory) × IsUntouched R.ResponseHandler sink.old sink.new) }
+        ensures refused { IfErr result (λ e. (e ≡ CatalogError.Memory) ×
+            IsUntouched R.ResponseHandler sink.old sink.new) }
     {
         let mut edns = cloned(edns)?;
         answer_query(self, alloc, request, &mut edns, now, sink)
     }
 
-    /// Answers a query by a transfer of the whole zone of its name, whatever type it asks for, as `handle_request` answers one of type AXFR, and hands
-    /// the sink the replies, which repeat the question as it was asked. So a server answers an IXFR of which it has no increments (RFC 1995
-    /// section 4). QR, opcode and EDNS version of the request are not looked at.
+    /// Answers a query by a transfer of the whole zone of its name, whatever type it asks for, as `handle_request`
+    /// answers one of type AXFR, and hands the sink the replies, which repeat the question as it was asked. So a server
+    /// answers an IXFR of which it has no increments (RFC 1995 section 4). QR, opcode and EDNS version of the request
+    /// are not looked at.
     ///
-    /// Where there is not just one question the reply is FormErr, where no zone answers for the name Refused, and where no handler gives the transfer
-    /// or says why not ServFail. `Memory` says that no reply was handed over.
+    /// Where there is not just one question the reply is FormErr, where no zone answers for the name Refused, and where
+    /// no handler gives the transfer or says why not ServFail. `Memory` says that no reply was handed over.
     pub fn transfer<R: ResponseHandler>(
         &self,
         alloc: Global,
@@ -171,28 +186,34 @@ impl<S: ReplySigner, H: ZoneHandler> Catalog<S, H> {
         sink: &mut R,
     ) -> Result<ResponseInfo, CatalogError>
         ensures replied { IfOk result (λ info. (replies : List Reply) ×
-            TransferReplies (server_of H.ZoneHandler S.signature_for self.now) request.now (reply_edns self.now.nsid request.now.message.edns) now replies ×
+            TransferReplies (server_of H.ZoneHandler S.signature_for self.now) request.now
+            (reply_edns self.now.nsid request.now.message.edns) now replies ×
             SendsInOrder R.ResponseHandler request.now.message.metadata sink.old sink.new replies (header_of info)) }
-        ensures refused { IfErr result (λ e. (e ≡ CatalogError.Memory) × IsUntouched R.ResponseHandler sink.old sink.new) }
+        ensures refused { IfErr result (λ e. (e ≡ CatalogError.Memory) ×
+            IsUntouched R.ResponseHandler sink.old sink.new) }
     {
         let mut edns = reply_edns(alloc, self.nsid(), request.message().edns.as_ref())?;
         answer_by_transfer(self, alloc, request, &mut edns, now, sink)
     }
 
-    /// Answers a dynamic update (RFC 2136) by the first handler of its zone, and hands the sink one reply, with this EDNS.
-    /// `now` is in seconds since 1970. QR, opcode and EDNS version of the request are not looked at. The reply's OPT record
-    /// has the high bits of its response code (RFC 6891 section 6.1.3).
+    /// Answers a dynamic update (RFC 2136) by the first handler of its zone, and hands the sink one reply, with this
+    /// EDNS. `now` is in seconds since 1970. QR, opcode and EDNS version of the request are not looked at. The reply's
+    /// OPT record has the high bits of its response code (RFC 6891 section 6.1.3).
     ///
-    /// Where there is not just one question of type SOA the reply is FormErr, where its name is not itself the apex of a
-    /// zone NotAuth (RFC 2136 section 3.1), and where the zone has no handlers ServFail. The class of the zone is not looked
-    /// at. Else the first handler of the zone decides alone: a secondary one is answered NotImp, an external one NotAuth, and
-    /// a primary one makes the update or says why not. Nothing is forwarded (section 6). The reply has the id of the request,
-    /// opcode Update, the code and no records (section 3.8); of what a handler answered it has no other flag than QR, of what
-    /// the catalog answers itself the request's RD and CD too. It is signed as those of `lookup` are.
+    /// Where there is not just one question of type SOA the reply is FormErr, where its name is not itself the apex of
+    /// a zone NotAuth (RFC 2136 section 3.1), and where the zone has no handlers ServFail. The class of the zone is not
+    /// looked at. Else the first handler of the zone decides alone: a secondary one is answered NotImp, an external one
+    /// NotAuth, and a primary one makes the update or says why not. Nothing is forwarded (section 6). The reply has the
+    /// id of the request, opcode Update, the code and no records (section 3.8); of what a handler answered it has no
+    /// other flag than QR, of what the catalog answers itself the request's RD and CD too. It is signed as those of
+    /// `lookup` are.
     ///
-    /// Where the sink fails the answer tells of ServFail, and an update that was made stands. `Memory` says that nothing
-    /// changed and no reply was handed over, `MemoryAfterUpdate` that the handler made the update, which stands, and no
-    /// reply was handed over.
+    /// Where the sink fails the answer tells of ServFail, and an update that was made stands.
+    ///
+    /// # Errors
+    ///
+    /// `Memory` says that nothing changed and no reply was handed over, `MemoryAfterUpdate` that the handler made the
+    /// update, which stands, and no reply was handed over.
     pub fn update<R: ResponseHandler>(
         &mut self,
         alloc: Global,
@@ -202,9 +223,11 @@ impl<S: ReplySigner, H: ZoneHandler> Catalog<S, H> {
         sink: &mut R,
     ) -> Result<ResponseInfo, CatalogError>
         ensures replied { IfOk result (λ info. (reply : Reply) ×
-            UpdateAnswered (server_of H.ZoneHandler S.signature_for self.old) request.now (option_copied edns.entry) now (reply ∷ []) self.new.zones × BelongsTo request.now (option_copied edns.entry) reply ×
+            UpdateAnswered (server_of H.ZoneHandler S.signature_for self.old) request.now (option_copied edns.entry) now
+            (reply ∷ []) self.new.zones × BelongsTo request.now (option_copied edns.entry) reply ×
             Sends R.ResponseHandler request.now.message.metadata sink.old sink.new reply (header_of info)) }
-        ensures refused { IfErr result (λ e. UpdateLeaves (server_of H.ZoneHandler S.signature_for self.old) request.now now e self.new.zones ×
+        ensures refused { IfErr result
+            (λ e. UpdateLeaves (server_of H.ZoneHandler S.signature_for self.old) request.now now e self.new.zones ×
             IsUntouched R.ResponseHandler sink.old sink.new) }
         ensures others { self.new ≡ record self.old { zones = self.new.zones } }
     {
@@ -214,17 +237,21 @@ impl<S: ReplySigner, H: ZoneHandler> Catalog<S, H> {
 }
 
 impl<S: ReplySigner, H: ZoneHandler> RequestHandler for Catalog<S, H> {
-    /// Hands the sink one reply, or those of a transfer. Where the request has an OPT record, so has the reply: version 0, DO as asked, the payload
-    /// that was asked for but at least 512 bytes, and the server's identifier where it is set and the request asks for it
-    /// (RFC 6891 section 6, RFC 5001).
+    /// Hands the sink one reply, or those of a transfer. Where the request has an OPT record, so has the reply: version
+    /// 0, DO as asked, the payload that was asked for but at least 512 bytes, and the server's identifier where it is
+    /// set and the request asks for it (RFC 6891 section 6, RFC 5001).
     ///
-    /// An EDNS version but 0 is answered BADVERS, a message with QR set FormErr, an opcode but Query and Update NotImp; what
-    /// is wrong first decides. A query is answered as `lookup` does with that EDNS, and an update as `update` does. Only an
-    /// update changes a zone.
+    /// An EDNS version but 0 is answered BADVERS, a message with QR set FormErr, an opcode but Query and Update NotImp;
+    /// what is wrong first decides. A query is answered as `lookup` does with that EDNS, and an update as `update`
+    /// does. Only an update changes a zone.
     ///
-    /// The reply has the request's id, and an OPT record just where the request has one. TC is set only where it is cut when
-    /// it is written. `Memory` says that nothing changed and no reply was handed over, `MemoryAfterUpdate` that an update was
-    /// made, which stands, and no reply was handed over.
+    /// The reply has the request's id, and an OPT record just where the request has one. TC is set only where it is cut
+    /// when it is written.
+    ///
+    /// # Errors
+    ///
+    /// `Memory` says that nothing changed and no reply was handed over, `MemoryAfterUpdate` that an update was made,
+    /// which stands, and no reply was handed over.
     fn handle_request<R: ResponseHandler>(
         &mut self,
         alloc: Global,
@@ -233,9 +260,11 @@ impl<S: ReplySigner, H: ZoneHandler> RequestHandler for Catalog<S, H> {
         sink: &mut R,
     ) -> Result<ResponseInfo, CatalogError>
         ensures replied { IfOk result (λ info. (replies : List Reply) ×
-            RequestAnswered (server_of H.ZoneHandler S.signature_for self.old) request.now now replies self.new.zones × AllByRecursion (BelongsTo request.now request.now.message.edns) replies ×
+            RequestAnswered (server_of H.ZoneHandler S.signature_for self.old) request.now now replies self.new.zones ×
+            AllByRecursion (BelongsTo request.now request.now.message.edns) replies ×
             SendsInOrder R.ResponseHandler request.now.message.metadata sink.old sink.new replies (header_of info)) }
-        ensures refused { IfErr result (λ e. RequestLeaves (server_of H.ZoneHandler S.signature_for self.old) request.now now e self.new.zones ×
+        ensures refused { IfErr result
+            (λ e. RequestLeaves (server_of H.ZoneHandler S.signature_for self.old) request.now now e self.new.zones ×
             IsUntouched R.ResponseHandler sink.old sink.new) }
         ensures others { self.new ≡ record self.old { zones = self.new.zones } }
     {

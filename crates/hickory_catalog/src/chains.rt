@@ -4,11 +4,12 @@ ghost use Rattle.std.specs.Prelude.{◌≡◌, ◌<◌, [], length, false, IsTru
 ghost use Rattle.std.specs.List.{remove};
 ghost use Rattle.std.specs.Option.{option_or};
 ghost use Rattle.wire_names.specs.rr.domain.NameOrder.{lower_name};
+ghost use Rattle.wire_messages.specs.Numbers.{code_refused};
 ghost use Rattle.wire_messages.specs.declared.rr.tsig.TSigResponseContext.{TSigResponseContext};
 ghost use Rattle.hickory_base.specs.zone_store.Lookups.{result_of};
 ghost use Rattle.hickory_base.specs.requests.Requests.{information_of};
 ghost use Rattle.hickory_base.specs.declared.zone_store.lookup.LookupControlFlow.TheVariants.{Skip};
-ghost use Rattle.hickory_catalog.specs.Transcripts.{Asked, ChainAnswers, Consulted, IsAnswer, is_memory, options_of, wants_memory};
+ghost use Rattle.hickory_catalog.specs.queries.Transcripts.{Asked, ChainAnswers, Consulted, IsAnswer, is_memory, options_of, wants_memory};
 
 use hickory_base::errors::LookupError;
 use hickory_base::server::{Request, RequestInfo};
@@ -34,9 +35,16 @@ pub(crate) struct ChainAnswer<'z> {
     pub given: Given<'z>,
 }
 
-/// A reply in whose place a handler puts another: Refused, which is 5, and no records.
+/// A reply in whose place a handler puts another: Refused, and no records.
 pub(crate) fn unanswered<'z>() -> WholeReply<'z>
-    ensures { result ≡ record { response_code = 5; authoritative = false; answers = []; authorities = []; additionals = [] } }
+    ensures { result ≡ record {
+      response_code = code_refused;
+      authoritative = false;
+      answers = [];
+      authorities = [];
+      additionals =
+          [];
+    } }
 {
     WholeReply {
         response_code: ResponseCode::REFUSED,
@@ -47,7 +55,8 @@ pub(crate) fn unanswered<'z>() -> WholeReply<'z>
     }
 }
 
-/// What stands where a handler puts what it gives: a whole reply, in whose place it may put another, and nothing for a signer.
+/// What stands where a handler puts what it gives: a whole reply, in whose place it may put another, and nothing for a
+/// signer.
 fn ungiven<'z>() -> Given<'z>
     ensures { result.1 ≡ None }
 {
@@ -101,7 +110,8 @@ fn put_whole<'z, H: ZoneHandler>(
     options: LookupOptions,
     given: &mut Given<'z>,
 ) -> bool
-    ensures gives { IsTrue result → H.search_gives handler.now request.now options given.new.0 None × IsAnswer given.new.0 }
+    ensures gives { IsTrue result → H.search_gives handler.now request.now options given.new.0 None ×
+        IsAnswer given.new.0 }
     ensures unsigned { given.new.1 ≡ given.old.1 }
 {
     match &mut given.0 {
@@ -112,7 +122,8 @@ fn put_whole<'z, H: ZoneHandler>(
     }
 }
 
-/// Puts what a handler finds in the place of what stands there. Returns whether it answers. A `Skip` is not kept, nor its context.
+/// Puts what a handler finds in the place of what stands there. Returns whether it answers. A `Skip` is not kept, nor
+/// its context.
 #[inline(never)]
 fn put_found<'z, H: ZoneHandler>(
     handler: &'z H,
@@ -121,8 +132,10 @@ fn put_found<'z, H: ZoneHandler>(
     options: LookupOptions,
     given: &mut Given<'z>,
 ) -> bool
-    ensures answered { IsTrue result → H.search_gives handler.now request.now options given.new.0 given.new.1 × IsAnswer given.new.0 }
-    ensures skipped { IsFalse result → (dropped : Option TSigResponseContext) × H.search_gives handler.now request.now options Skip dropped × (given.new.1 ≡ None) }
+    ensures answered { IsTrue result → H.search_gives handler.now request.now options given.new.0 given.new.1 ×
+        IsAnswer given.new.0 }
+    ensures skipped { IsFalse result → (dropped : Option TSigResponseContext) ×
+        H.search_gives handler.now request.now options Skip dropped × (given.new.1 ≡ None) }
 {
     *given = handler.search(alloc, request, options);
     match &given.0 {
@@ -134,7 +147,8 @@ fn put_found<'z, H: ZoneHandler>(
     }
 }
 
-/// Asks a handler, and puts what it gives in the place of what stands there. Returns whether it answers. A `Skip` is not kept, nor its context.
+/// Asks a handler, and puts what it gives in the place of what stands there. Returns whether it answers. A `Skip` is
+/// not kept, nor its context.
 #[inline(always)]
 fn put_answer<'z, H: ZoneHandler>(
     handler: &'z H,
@@ -144,8 +158,10 @@ fn put_answer<'z, H: ZoneHandler>(
     given: &mut Given<'z>,
 ) -> bool
     requires unsigned { given.old.1 ≡ None }
-    ensures answered { IsTrue result → H.search_gives handler.now request.now options given.new.0 given.new.1 × IsAnswer given.new.0 }
-    ensures skipped { IsFalse result → (dropped : Option TSigResponseContext) × H.search_gives handler.now request.now options Skip dropped × (given.new.1 ≡ None) }
+    ensures answered { IsTrue result → H.search_gives handler.now request.now options given.new.0 given.new.1 ×
+        IsAnswer given.new.0 }
+    ensures skipped { IsFalse result → (dropped : Option TSigResponseContext) ×
+        H.search_gives handler.now request.now options Skip dropped × (given.new.1 ≡ None) }
 {
     // speed: served, an address past a block list. A whole reply stays where it is put.
     if put_whole(handler, alloc, request, options, given) {
@@ -154,7 +170,8 @@ fn put_answer<'z, H: ZoneHandler>(
     put_found(handler, alloc, request, options, given)
 }
 
-/// Asks the handlers of a chain from left to right, and puts the answer in this place. A `Skip` goes on with the rest and drops its context.
+/// Asks the handlers of a chain from left to right, and puts the answer in this place. A `Skip` goes on with the rest
+/// and drops its context.
 fn ask<'z, H: ZoneHandler>(
     chain: &'z [H],
     alloc: Global,
@@ -162,7 +179,8 @@ fn ask<'z, H: ZoneHandler>(
     answer: &mut ChainAnswer<'z>,
 )
     requires { answer.old.given.1 ≡ None }
-    ensures asked { Asked H.ZoneHandler request.now (options_of request.now) chain.now answer.new.place answer.new.given.0 answer.new.given.1 }
+    ensures asked { Asked H.ZoneHandler request.now (options_of request.now) chain.now answer.new.place
+        answer.new.given }
     ensures place { IsAnswer answer.new.given.0 → answer.new.place < length chain.now }
 {
     let options = options_of(request);
@@ -176,7 +194,8 @@ fn ask<'z, H: ZoneHandler>(
     answer.given = (LookupControlFlow::Skip, None);
 }
 
-/// Puts what a handler that was consulted gave in the place of what it was consulted about. A context that it gave takes the place of the one before.
+/// Puts what a handler that was consulted gave in the place of what it was consulted about. A context that it gave
+/// takes the place of the one before.
 #[inline(always)]
 fn put_consulted<'z>(given: &mut Given<'z>, fresh: &mut Given<'z>)
     ensures { (given.new.0 ≡ fresh.old.0) × (given.new.1 ≡ option_or fresh.old.1 given.old.1) }
@@ -187,7 +206,8 @@ fn put_consulted<'z>(given: &mut Given<'z>, fresh: &mut Given<'z>)
     }
 }
 
-/// Consults a handler about an answer, and puts what it answers in its place. A context that it gives takes the place of the one before.
+/// Consults a handler about an answer, and puts what it answers in its place. A context that it gives takes the place
+/// of the one before.
 #[inline(never)]
 fn consult_one<'z, H: ZoneHandler>(
     handler: &'z H,
@@ -196,7 +216,9 @@ fn consult_one<'z, H: ZoneHandler>(
     options: LookupOptions,
     given: &mut Given<'z>,
 )
-    ensures { (fresh : Option TSigResponseContext) × H.consult_gives handler.now (lower_name info.now.query.now.name) info.now.query.now.query_type (Some (information_of info.now)) options given.old.0 given.new.0 fresh ×
+    ensures { (fresh : Option TSigResponseContext) ×
+        H.consult_gives handler.now (lower_name info.now.query.now.name) info.now.query.now.query_type
+        (Some (information_of info.now)) options given.old.0 given.new.0 fresh ×
         (given.new.1 ≡ option_or fresh given.old.1) }
 {
     let name = info.query.name();
@@ -209,7 +231,8 @@ fn consult_one<'z, H: ZoneHandler>(
     );
 }
 
-/// Consults handlers from left to right about an answer, each about what the one before it left. Want of memory ends it.
+/// Consults handlers from left to right about an answer, each about what the one before it left. Want of memory ends
+/// it.
 fn consult<'z, H: ZoneHandler>(
     handlers: &'z [H],
     alloc: Global,
@@ -217,7 +240,7 @@ fn consult<'z, H: ZoneHandler>(
     options: LookupOptions,
     given: &mut Given<'z>,
 )
-    ensures { Consulted H.ZoneHandler (information_of info.now) options handlers.now given.old.0 given.old.1 given.new.0 given.new.1 }
+    ensures { Consulted H.ZoneHandler (information_of info.now) options handlers.now given.old given.new }
 {
     for i in 0..handlers.len() {
         if wants_memory(&given.0) {
@@ -237,7 +260,8 @@ fn consult_others<'z, H: ZoneHandler>(
 )
     requires { asked.old.place < length chain.now }
     ensures place { asked.new.place ≡ asked.old.place }
-    ensures consulted { Consulted H.ZoneHandler (information_of info.now) options (remove chain.now asked.old.place) asked.old.given.0 asked.old.given.1 asked.new.given.0 asked.new.given.1 }
+    ensures consulted { Consulted H.ZoneHandler (information_of info.now) options
+        (remove chain.now asked.old.place) asked.old.given asked.new.given }
 {
     let place = asked.place;
     consult(&chain[..place], alloc, info, options, &mut asked.given);
@@ -254,7 +278,7 @@ pub(crate) fn chain_answer<'z, H: ZoneHandler>(
     answer: &mut ChainAnswer<'z>,
 )
     requires { answer.old.given.1 ≡ None }
-    ensures answers { ChainAnswers H.ZoneHandler request.now (information_of info.now) options chain.now answer.new.place answer.new.given.0 answer.new.given.1 }
+    ensures answers { ChainAnswers H.ZoneHandler request.now (information_of info.now) options chain.now answer.new }
     ensures place { IsSome (result_of answer.new.given.0) → answer.new.place < length chain.now }
 {
     ask(chain, alloc, request, answer);

@@ -5,7 +5,7 @@ ghost use Rattle.std.specs.Option.{option_copied, option_to_list};
 ghost use Rattle.std.specs.Iterator.Adapters.{chain_first, chain_first_done, chain_second, chain_second_done, once_item};
 ghost use Rattle.std.specs.Slice.Iter.{iter_rest};
 ghost use Rattle.hickory_base.specs.responses.Responses.{IsBuilt};
-ghost use Rattle.hickory_catalog.specs.Replies.{bare_contents, contents_of, error_contents};
+ghost use Rattle.hickory_catalog.specs.replies.Replies.{bare_contents, contents_of, error_contents};
 
 use hickory_base::message_request::MessageRequest;
 use hickory_base::message_response::{EmptySection, MessageResponse, MessageResponseBuilder};
@@ -84,13 +84,15 @@ pub(crate) fn response<'q>(
     edns: Option<&'q Edns>,
     contents: &'q ReplyContents<'_>,
 ) -> Response<'q>
-    ensures parts { IsBuilt (record { questions = request.now.queries; edns = option_copied edns.entry }) contents.now.metadata result }
+    ensures parts { IsBuilt (record { questions = request.now.queries; edns = option_copied edns.entry })
+        contents.now.metadata result }
     ensures answers { iter_rest result.answers ≡ contents.now.answers }
     ensures first { iter_rest (chain_first result.authorities) ≡ option_to_list contents.now.soa }
     ensures second { iter_rest (chain_first (chain_second result.authorities)) ≡ contents.now.authorities }
     ensures third { iter_rest (chain_second (chain_second result.authorities)) ≡ contents.now.other_authorities }
     ensures undone { (chain_first_done result.authorities ≡ false) × (chain_second_done result.authorities ≡ false) }
-    ensures undone_behind { (chain_first_done (chain_second result.authorities) ≡ false) × (chain_second_done (chain_second result.authorities) ≡ false) }
+    ensures undone_behind { (chain_first_done (chain_second result.authorities) ≡ false) ×
+        (chain_second_done (chain_second result.authorities) ≡ false) }
     ensures soa { once_item result.soa ≡ None }
     ensures additionals { iter_rest result.additionals ≡ contents.now.additionals }
 {

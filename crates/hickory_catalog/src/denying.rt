@@ -2,7 +2,7 @@
 
 ghost use Rattle.std.specs.Prelude.{◌≡◌};
 ghost use Rattle.std.specs.Option.{option_copied};
-ghost use Rattle.hickory_catalog.specs.Denying.{DenialBesideAnswer, DenialGiven, DenialOfNegative, is_expanded, is_wildcard_match, needs_denial, signed_labels};
+ghost use Rattle.hickory_catalog.specs.queries.DenialRecords.{DenialBesideAnswer, DenialGiven, DenialOfNegative, is_expanded, is_wildcard_match, needs_denial, signed_labels};
 
 use hickory_base::zone_store::{
     AuthLookup, LookupControlFlow, LookupOptions, Nsec3QueryInfo, NxProofKind, ZoneHandler,
@@ -58,7 +58,9 @@ fn denial<'z, H: ZoneHandler>(
     from_wildcard: bool,
     options: LookupOptions,
 ) -> LookupControlFlow<AuthLookup<'z>>
-    ensures { DenialGiven H.ZoneHandler handler.now query.now from_wildcard options (H.nx_proof_kind_of handler.now) result }
+    ensures { DenialGiven H.ZoneHandler handler.now
+        (record { query = query.now; from_wildcard = from_wildcard; options = options })
+        (H.nx_proof_kind_of handler.now) result }
 {
     match handler.nx_proof_kind() {
         None => LookupControlFlow::Skip,

@@ -2,7 +2,7 @@
 
 ghost use Rattle.std.specs.Prelude.{◌≡◌, ◌==◌, ◌&&◌, IfOk, Some};
 ghost use Rattle.std.specs.Option.{option_copied};
-ghost use Rattle.hickory_catalog.specs.ReplyEdns.{asks_for_nsid, reply_edns, with_high_code};
+ghost use Rattle.hickory_catalog.specs.replies.ReplyEdns.{asks_for_nsid, reply_edns, with_high_code};
 
 use hickory_wire::{Edns, EdnsOption, NSIDPayload, Octets, ResponseCode};
 use std::alloc::{AllocError, Global};

@@ -3,8 +3,8 @@
 ghost use Rattle.std.specs.Prelude.{◌≡◌, false, IfOk, filter, option_to_list};
 ghost use Rattle.std.specs.List.{list_all, list_any};
 ghost use Rattle.hickory_base.specs.zone_store.Lookups.{asks_for_dnssec};
-ghost use Rattle.hickory_catalog.specs.Forwarded.{code_alone, findings_contents, findings_of, forwarded_code, forwarded_contents, forwarded_metadata, has_name, is_authentic, is_bogus, is_bogus_proof, is_dnssec_bogus, is_dnssec_type, is_named, is_no_soa, is_passed_on, is_secure, is_secure_proof, nothing_found, passed_on, records_found, seen_findings, validated, without_bogus};
-ghost use Rattle.hickory_catalog.specs.Replies.{contents_of};
+ghost use Rattle.hickory_catalog.specs.queries.Forwarded.{code_alone, findings_contents, findings_of, forwarded_code, forwarded_contents, forwarded_metadata, has_name, is_authentic, is_bogus, is_bogus_proof, is_dnssec_bogus, is_dnssec_type, is_named, is_no_soa, is_passed_on, is_secure, is_secure_proof, nothing_found, passed_on, records_found, seen_findings, validated, without_bogus};
+ghost use Rattle.hickory_catalog.specs.replies.Replies.{contents_of};
 
 use crate::contents::ReplyContents;
 use hickory_base::errors::{DnsError, LookupError};
@@ -356,7 +356,8 @@ fn findings_contents<'z>(
     authentic: bool,
     found: Findings<'z>,
 ) -> Result<ReplyContents<'z>, AllocError>
-    ensures { IfOk result (λ contents. contents_of contents ≡ findings_contents request.now query.now authentic (seen_findings found.entry)) }
+    ensures { IfOk result (λ contents. contents_of contents ≡ findings_contents request.now query.now authentic
+        (seen_findings found.entry)) }
 {
     Ok(ReplyContents {
         metadata: forwarded_metadata(&request.metadata, authentic, found.code),
@@ -376,7 +377,8 @@ pub(crate) fn forwarded_contents<'z>(
     validates: bool,
     outcome: Result<AuthLookup<'z>, LookupError>,
 ) -> Result<ReplyContents<'z>, AllocError>
-    ensures { IfOk result (λ contents. contents_of contents ≡ forwarded_contents request.now query.now validates outcome.entry) }
+    ensures { IfOk result (λ contents. contents_of contents ≡ forwarded_contents request.now query.now validates
+        outcome.entry) }
 {
     if !request.metadata.recursion_desired {
         drop(outcome);

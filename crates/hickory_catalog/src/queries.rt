@@ -1,20 +1,21 @@
 //! From a query to its replies.
 
 ghost use Rattle.std.specs.Prelude.{◌≡◌, ◌==◌, ◌<◌, ◌^◌, ◌∷◌, [], ℕ, true, false, List, Option, IfOk, IfErr, IfSome, IfNone, IsSome, None, Some, length, slice_get};
+ghost use Rattle.wire_messages.specs.Numbers.{type_axfr};
 ghost use Rattle.wire_messages.specs.serialize.writing.Reply.{Reply};
 ghost use Rattle.wire_messages.specs.declared.rr.tsig.TSigResponseContext.{TSigResponseContext};
 ghost use Rattle.hickory_base.specs.zone_store.Lookups.{result_of, whole_answer, whole_reply};
 ghost use Rattle.hickory_base.specs.requests.Requests.{information};
 ghost use Rattle.hickory_base.specs.responses.Responses.{header_of};
-ghost use Rattle.hickory_catalog.specs.Forwarded.{forwarded_contents};
-ghost use Rattle.hickory_catalog.specs.Queries.{GivenReplies, HandlerReply, QueryReplies, ReplyByType, ZoneReplies, ZoneReply, consult_options, is_out_of_memory, whole_contents};
-ghost use Rattle.hickory_catalog.specs.Replies.{Contents, contents_of, unsigned_reply};
-ghost use Rattle.hickory_catalog.specs.Sending.{IsUntouched, Sends, SendsInOrder};
-ghost use Rattle.hickory_catalog.specs.Server.{server_of};
-ghost use Rattle.hickory_catalog.specs.Signing.{SignedReply};
-ghost use Rattle.hickory_catalog.specs.Transcripts.{ChainAnswers, options_of};
-ghost use Rattle.hickory_catalog.specs.Transfers.{transfer_contents};
-ghost use Rattle.hickory_catalog.specs.WholeTransfers.{ChainTransfers};
+ghost use Rattle.hickory_catalog.specs.queries.Forwarded.{forwarded_contents};
+ghost use Rattle.hickory_catalog.specs.queries.Queries.{GivenReplies, HandlerReply, QueryReplies, ReplyByType, ZoneReplies, ZoneReply, consult_options, is_out_of_memory, whole_contents};
+ghost use Rattle.hickory_catalog.specs.replies.Replies.{Contents, contents_of, unsigned_reply};
+ghost use Rattle.hickory_catalog.specs.replies.Sending.{IsUntouched, Sends, SendsInOrder};
+ghost use Rattle.hickory_catalog.specs.requests.Server.{server_of};
+ghost use Rattle.hickory_catalog.specs.replies.Signing.{SignedReply};
+ghost use Rattle.hickory_catalog.specs.queries.Transcripts.{ChainAnswers, options_of};
+ghost use Rattle.hickory_catalog.specs.transfers.Transfers.{transfer_contents};
+ghost use Rattle.hickory_catalog.specs.transfers.WholeTransfers.{ChainTransfers};
 
 use crate::authoritative::authoritative_contents;
 use crate::catalog::Catalog;
@@ -71,7 +72,8 @@ fn external_contents<'z, H: ZoneHandler>(
     query: &LowerQuery,
     outcome: &mut Result<AuthLookup<'z>, LookupError>,
 ) -> Result<ReplyContents<'z>, CatalogError>
-    ensures replied { IfOk result (λ contents. contents_of contents ≡ forwarded_contents request.now.message query.now (H.validates_dnssec handler.now) outcome.old) }
+    ensures replied { IfOk result (λ contents. contents_of contents ≡ forwarded_contents request.now.message query.now
+        (H.validates_dnssec handler.now) outcome.old) }
     ensures refused { IfErr result (λ e. e ≡ CatalogError.Memory) }
 {
     let validates = handler.can_validate_dnssec();
@@ -105,7 +107,8 @@ fn whole_contents<'z>(request: &Metadata, reply: &mut WholeReply<'z>) -> ReplyCo
     contents
 }
 
-/// Hands over a reply that a handler has whole, with this EDNS and without a signature. Its records stay where they lie.
+/// Hands over a reply that a handler has whole, with this EDNS and without a signature. Its records stay where they
+/// lie.
 #[inline(always)]
 fn send_whole<R: ResponseHandler>(
     alloc: Global,
@@ -144,7 +147,8 @@ fn answer_whole_signed<S: ReplySigner, R: ResponseHandler>(
     sink: &mut R,
 ) -> Result<ResponseInfo, CatalogError>
     ensures replied { IfOk result (λ info. (reply : Reply) × (whole.old.response_code < 2 ^ 12) ×
-        SignedReply (S.signature_for signer.now) request.now edns.old (whole_contents request.now.metadata whole.old) (Some context.entry.now) reply ×
+        SignedReply (S.signature_for signer.now) request.now edns.old (whole_contents request.now.metadata whole.old)
+        (Some context.entry.now) reply ×
         Sends R.ResponseHandler request.now.metadata sink.old sink.new reply (header_of info)) }
     ensures refused { IfErr result (λ e. (e ≡ CatalogError.Memory) × IsUntouched R.ResponseHandler sink.old sink.new) }
 {
@@ -165,7 +169,8 @@ fn answer_whole<S: ReplySigner, R: ResponseHandler>(
     sink: &mut R,
 ) -> Result<ResponseInfo, CatalogError>
     ensures replied { IfOk result (λ info. (reply : Reply) × (whole.old.response_code < 2 ^ 12) ×
-        SignedReply (S.signature_for signer.now) request.now edns.old (whole_contents request.now.metadata whole.old) context.now reply ×
+        SignedReply (S.signature_for signer.now) request.now edns.old (whole_contents request.now.metadata whole.old)
+        context.now reply ×
         Sends R.ResponseHandler request.now.metadata sink.old sink.new reply (header_of info)) }
     ensures refused { IfErr result (λ e. (e ≡ CatalogError.Memory) × IsUntouched R.ResponseHandler sink.old sink.new) }
 {
@@ -175,7 +180,8 @@ fn answer_whole<S: ReplySigner, R: ResponseHandler>(
     }
 }
 
-/// What the handler that was asked replies to what the chain answered in the end, whose records may be taken out, where that is not the whole reply.
+/// What the handler that was asked replies to what the chain answered in the end, whose records may be taken out, where
+/// that is not the whole reply.
 fn handler_contents<'z, H: ZoneHandler>(
     handler: &'z H,
     alloc: Global,
@@ -184,7 +190,8 @@ fn handler_contents<'z, H: ZoneHandler>(
     outcome: &mut Result<AuthLookup<'z>, LookupError>,
 ) -> Result<ReplyContents<'z>, CatalogError>
     ensures replied { IfOk result (λ contents. (is_out_of_memory outcome.old ≡ false) ×
-        ReplyByType H.ZoneHandler handler.now (H.zone_type_of handler.now) request.now query.now outcome.old (contents_of contents)) }
+        ReplyByType H.ZoneHandler handler.now (H.zone_type_of handler.now)
+        (record { request = request.now; query = query.now }) outcome.old (contents_of contents)) }
     ensures refused { IfErr result (λ e. e ≡ CatalogError.Memory) }
 {
     if is_out_of_memory(outcome) {
@@ -198,7 +205,8 @@ fn handler_contents<'z, H: ZoneHandler>(
     }
 }
 
-/// Answers to what a chain answered in the end, whose records may be taken out, where the handler at this place was asked and that is not the whole reply.
+/// Answers to what a chain answered in the end, whose records may be taken out, where the handler at this place was
+/// asked and that is not the whole reply.
 #[inline(never)]
 fn answer_by_contents<'q, S: ReplySigner, H: ZoneHandler, R: ResponseHandler>(
     asked: &ZoneQuery<'q, S, H>,
@@ -212,8 +220,10 @@ fn answer_by_contents<'q, S: ReplySigner, H: ZoneHandler, R: ResponseHandler>(
     requires other { whole_reply outcome.old ≡ None }
     ensures replied { IfOk result (λ info. (handler : H) × (contents : Contents) × (reply : Reply) ×
         (slice_get asked.now.chain.now place ≡ Some handler) × (is_out_of_memory outcome.old ≡ false) ×
-        HandlerReply H.ZoneHandler handler (H.zone_type_of handler) asked.now.request.now asked.now.query.now outcome.old contents ×
-        SignedReply (S.signature_for asked.now.catalog.now.signer) asked.now.request.now.message edns.old contents context.now reply ×
+        HandlerReply H.ZoneHandler handler (H.zone_type_of handler)
+        (record { request = asked.now.request.now; query = asked.now.query.now }) outcome.old contents ×
+        SignedReply (S.signature_for asked.now.catalog.now.signer) asked.now.request.now.message edns.old contents
+        context.now reply ×
         Sends R.ResponseHandler asked.now.request.now.message.metadata sink.old sink.new reply (header_of info)) }
     ensures refused { IfErr result (λ e. (e ≡ CatalogError.Memory) × IsUntouched R.ResponseHandler sink.old sink.new) }
 {
@@ -232,7 +242,8 @@ fn answer_by_contents<'q, S: ReplySigner, H: ZoneHandler, R: ResponseHandler>(
     told
 }
 
-/// Answers to what a chain answered in the end, whose records may be taken out, where the handler at this place was asked.
+/// Answers to what a chain answered in the end, whose records may be taken out, where the handler at this place was
+/// asked.
 #[inline(always)]
 fn answer_outcome<'q, S: ReplySigner, H: ZoneHandler, R: ResponseHandler>(
     asked: &ZoneQuery<'q, S, H>,
@@ -245,8 +256,10 @@ fn answer_outcome<'q, S: ReplySigner, H: ZoneHandler, R: ResponseHandler>(
     requires { place < length asked.now.chain.now }
     ensures replied { IfOk result (λ info. (handler : H) × (contents : Contents) × (reply : Reply) ×
         (slice_get asked.now.chain.now place ≡ Some handler) × (is_out_of_memory outcome.old ≡ false) ×
-        HandlerReply H.ZoneHandler handler (H.zone_type_of handler) asked.now.request.now asked.now.query.now outcome.old contents ×
-        SignedReply (S.signature_for asked.now.catalog.now.signer) asked.now.request.now.message edns.old contents context.now reply ×
+        HandlerReply H.ZoneHandler handler (H.zone_type_of handler)
+        (record { request = asked.now.request.now; query = asked.now.query.now }) outcome.old contents ×
+        SignedReply (S.signature_for asked.now.catalog.now.signer) asked.now.request.now.message edns.old contents
+        context.now reply ×
         Sends R.ResponseHandler asked.now.request.now.message.metadata sink.old sink.new reply (header_of info)) }
     ensures refused { IfErr result (λ e. (e ≡ CatalogError.Memory) × IsUntouched R.ResponseHandler sink.old sink.new) }
 {
@@ -275,7 +288,8 @@ fn answer_transferred<S: ReplySigner, R: ResponseHandler>(
     sink: &mut R,
 ) -> Result<ResponseInfo, CatalogError>
     ensures replied { IfOk result (λ info. (reply : Reply) × (is_out_of_memory outcome ≡ false) ×
-        SignedReply (S.signature_for signer.now) request.now.message edns.old (transfer_contents request.now.message.metadata outcome) context.now reply ×
+        SignedReply (S.signature_for signer.now) request.now.message edns.old
+        (transfer_contents request.now.message.metadata outcome) context.now reply ×
         Sends R.ResponseHandler request.now.message.metadata sink.old sink.new reply (header_of info)) }
     ensures refused { IfErr result (λ e. (e ≡ CatalogError.Memory) × IsUntouched R.ResponseHandler sink.old sink.new) }
 {
@@ -307,7 +321,8 @@ fn answer_given<S: ReplySigner, R: ResponseHandler>(
     context: &Option<TSigResponseContext>,
     sink: &mut R,
 ) -> Result<ResponseInfo, CatalogError>
-    ensures replied { IfOk result (λ info. (replies : List Reply) × GivenReplies (S.signature_for signer.now) request.now edns.old outcome context.now replies ×
+    ensures replied { IfOk result (λ info. (replies : List Reply) ×
+        GivenReplies (S.signature_for signer.now) request.now edns.old outcome context.now replies ×
         SendsInOrder R.ResponseHandler request.now.message.metadata sink.old sink.new replies (header_of info)) }
     ensures refused { IfErr result (λ e. (e ≡ CatalogError.Memory) × IsUntouched R.ResponseHandler sink.old sink.new) }
 {
@@ -326,8 +341,10 @@ pub(crate) fn give_transfer<S: ReplySigner, H: ZoneHandler, R: ResponseHandler>(
     sink: &mut R,
 ) -> Result<ResponseInfo, CatalogError>
     ensures replied { IfOk result (λ info. (replies : List Reply) ×
-        ChainTransfers (server_of H.ZoneHandler S.signature_for asked.now.catalog.now) asked.now.chain.now asked.now.request.now edns.old asked.now.moment replies ×
-        SendsInOrder R.ResponseHandler asked.now.request.now.message.metadata sink.old sink.new replies (header_of info)) }
+        ChainTransfers (server_of H.ZoneHandler S.signature_for asked.now.catalog.now) asked.now.chain.now
+        asked.now.request.now edns.old asked.now.moment replies ×
+        SendsInOrder R.ResponseHandler asked.now.request.now.message.metadata sink.old sink.new replies
+        (header_of info)) }
     ensures refused { IfErr result (λ e. (e ≡ CatalogError.Memory) × IsUntouched R.ResponseHandler sink.old sink.new) }
 {
     let alloc = asked.alloc;
@@ -353,17 +370,19 @@ fn answer_transfer<S: ReplySigner, H: ZoneHandler, R: ResponseHandler>(
     edns: &mut Option<Edns>,
     sink: &mut R,
 ) -> Result<ResponseInfo, CatalogError>
-    requires { (asked.now.query.now.query_type == 252) ≡ true }
+    requires { (asked.now.query.now.query_type == type_axfr) ≡ true }
     ensures replied { IfOk result (λ info. (replies : List Reply) ×
-        ZoneReplies (server_of H.ZoneHandler S.signature_for asked.now.catalog.now) asked.now.chain.now asked.now.request.now edns.old asked.now.moment asked.now.query.now replies ×
-        SendsInOrder R.ResponseHandler asked.now.request.now.message.metadata sink.old sink.new replies (header_of info)) }
+        ZoneReplies (server_of H.ZoneHandler S.signature_for asked.now.catalog.now) asked.now.chain.now
+        (record { request = asked.now.request.now; query = asked.now.query.now }) edns.old asked.now.moment replies ×
+        SendsInOrder R.ResponseHandler asked.now.request.now.message.metadata sink.old sink.new replies
+        (header_of info)) }
     ensures refused { IfErr result (λ e. (e ≡ CatalogError.Memory) × IsUntouched R.ResponseHandler sink.old sink.new) }
 {
     give_transfer(asked, edns, sink)
 }
 
-/// Answers to what the chain of a zone answered, at this place if it did, and hands the reply over, with this EDNS. The records of the answer may be
-/// taken out.
+/// Answers to what the chain of a zone answered, at this place if it did, and hands the reply over, with this EDNS. The
+/// records of the answer may be taken out.
 #[inline(always)]
 fn answer_chained<'q, S: ReplySigner, H: ZoneHandler, R: ResponseHandler>(
     asked: &ZoneQuery<'q, S, H>,
@@ -372,14 +391,18 @@ fn answer_chained<'q, S: ReplySigner, H: ZoneHandler, R: ResponseHandler>(
     edns: &mut Option<Edns>,
     sink: &mut R,
 ) -> Result<ResponseInfo, CatalogError>
-    requires lookup { (asked.now.query.now.query_type == 252) ≡ false }
+    requires lookup { (asked.now.query.now.query_type == type_axfr) ≡ false }
     requires skipped { result_of given.old.0 ≡ None → (behind : ℕ) × (context : Option TSigResponseContext) ×
-        ChainAnswers H.ZoneHandler asked.now.request.now (information asked.now.request.now asked.now.query.now) (consult_options edns.old) asked.now.chain.now behind given.old.0 context }
+        ChainAnswers H.ZoneHandler asked.now.request.now (information asked.now.request.now asked.now.query.now)
+        (consult_options edns.old) asked.now.chain.now
+        (record { place = behind; given = (given.old.0, context) }) }
     requires answered { IsSome (result_of given.old.0) →
-        ChainAnswers H.ZoneHandler asked.now.request.now (information asked.now.request.now asked.now.query.now) (consult_options edns.old) asked.now.chain.now place given.old.0 given.old.1 }
+        ChainAnswers H.ZoneHandler asked.now.request.now (information asked.now.request.now asked.now.query.now)
+        (consult_options edns.old) asked.now.chain.now (record { place = place; given = given.old }) }
     requires place { IsSome (result_of given.old.0) → place < length asked.now.chain.now }
     ensures replied { IfOk result (λ info. (reply : Reply) ×
-        ZoneReply (server_of H.ZoneHandler S.signature_for asked.now.catalog.now) asked.now.chain.now asked.now.request.now edns.old asked.now.moment asked.now.query.now reply ×
+        ZoneReply (server_of H.ZoneHandler S.signature_for asked.now.catalog.now) asked.now.chain.now
+        (record { request = asked.now.request.now; query = asked.now.query.now }) edns.old asked.now.moment reply ×
         Sends R.ResponseHandler asked.now.request.now.message.metadata sink.old sink.new reply (header_of info)) }
     ensures refused { IfErr result (λ e. (e ≡ CatalogError.Memory) × IsUntouched R.ResponseHandler sink.old sink.new) }
 {
@@ -400,8 +423,8 @@ fn answer_chained<'q, S: ReplySigner, H: ZoneHandler, R: ResponseHandler>(
     }
 }
 
-/// Answers a query of a zone of one handler, but for a transfer, by what the handler finds, and hands the reply over, with this EDNS. Nobody else is there
-/// to be consulted, and the answer stays where the handler puts it.
+/// Answers a query of a zone of one handler, but for a transfer, by what the handler finds, and hands the reply over,
+/// with this EDNS. Nobody else is there to be consulted, and the answer stays where the handler puts it.
 #[inline(never)]
 fn answer_searched<'q, S: ReplySigner, H: ZoneHandler, R: ResponseHandler>(
     asked: &ZoneQuery<'q, S, H>,
@@ -409,10 +432,11 @@ fn answer_searched<'q, S: ReplySigner, H: ZoneHandler, R: ResponseHandler>(
     edns: &mut Option<Edns>,
     sink: &mut R,
 ) -> Result<ResponseInfo, CatalogError>
-    requires lookup { (asked.now.query.now.query_type == 252) ≡ false }
+    requires lookup { (asked.now.query.now.query_type == type_axfr) ≡ false }
     requires alone { asked.now.chain.now ≡ handler.now ∷ [] }
     ensures replied { IfOk result (λ info. (reply : Reply) ×
-        ZoneReply (server_of H.ZoneHandler S.signature_for asked.now.catalog.now) asked.now.chain.now asked.now.request.now edns.old asked.now.moment asked.now.query.now reply ×
+        ZoneReply (server_of H.ZoneHandler S.signature_for asked.now.catalog.now) asked.now.chain.now
+        (record { request = asked.now.request.now; query = asked.now.query.now }) edns.old asked.now.moment reply ×
         Sends R.ResponseHandler asked.now.request.now.message.metadata sink.old sink.new reply (header_of info)) }
     ensures refused { IfErr result (λ e. (e ≡ CatalogError.Memory) × IsUntouched R.ResponseHandler sink.old sink.new) }
 {
@@ -427,8 +451,8 @@ fn answer_searched<'q, S: ReplySigner, H: ZoneHandler, R: ResponseHandler>(
     )
 }
 
-/// Answers a query by the whole reply that a handler puts in the place of this one, and hands it over, with this EDNS. `None` says that the handler puts
-/// none, and that nothing was handed over.
+/// Answers a query by the whole reply that a handler puts in the place of this one, and hands it over, with this EDNS.
+/// `None` says that the handler puts none, and that nothing was handed over.
 #[inline(always)]
 fn answer_put<'q, S: ReplySigner, H: ZoneHandler, R: ResponseHandler>(
     asked: &ZoneQuery<'q, S, H>,
@@ -437,11 +461,14 @@ fn answer_put<'q, S: ReplySigner, H: ZoneHandler, R: ResponseHandler>(
     sink: &mut R,
     whole: &mut WholeReply<'q>,
 ) -> Option<ResponseInfo>
-    ensures gives { IfSome result (λ _. H.search_gives handler.now asked.now.request.now (options_of asked.now.request.now)
+    ensures gives { IfSome result (λ _. H.search_gives handler.now asked.now.request.now
+        (options_of asked.now.request.now)
         (whole_answer whole.new) None) }
     ensures in_range { IfSome result (λ _. whole.new.response_code < 2 ^ 12) }
-    ensures sent { IfSome result (λ info. Sends R.ResponseHandler asked.now.request.now.message.metadata sink.old sink.new
-        (unsigned_reply asked.now.request.now.message edns.old (whole_contents asked.now.request.now.message.metadata whole.new))
+    ensures sent { IfSome result (λ info.
+        Sends R.ResponseHandler asked.now.request.now.message.metadata sink.old sink.new
+        (unsigned_reply asked.now.request.now.message edns.old
+        (whole_contents asked.now.request.now.message.metadata whole.new))
         (header_of info)) }
     ensures unput { IfNone result ((sink.new ≡ sink.old) × (edns.new ≡ edns.old)) }
 {
@@ -452,18 +479,19 @@ fn answer_put<'q, S: ReplySigner, H: ZoneHandler, R: ResponseHandler>(
     Some(send_whole(asked.alloc, request.message(), edns, whole, sink))
 }
 
-/// Answers a query of a zone of one handler, but for a transfer, and hands the reply over, with this EDNS. Nobody else is there to be consulted, and a
-/// whole reply is put where it is sent from.
+/// Answers a query of a zone of one handler, but for a transfer, and hands the reply over, with this EDNS. Nobody else
+/// is there to be consulted, and a whole reply is put where it is sent from.
 fn answer_alone<'q, S: ReplySigner, H: ZoneHandler, R: ResponseHandler>(
     asked: &ZoneQuery<'q, S, H>,
     handler: &'q H,
     edns: &mut Option<Edns>,
     sink: &mut R,
 ) -> Result<ResponseInfo, CatalogError>
-    requires lookup { (asked.now.query.now.query_type == 252) ≡ false }
+    requires lookup { (asked.now.query.now.query_type == type_axfr) ≡ false }
     requires alone { asked.now.chain.now ≡ handler.now ∷ [] }
     ensures replied { IfOk result (λ info. (reply : Reply) ×
-        ZoneReply (server_of H.ZoneHandler S.signature_for asked.now.catalog.now) asked.now.chain.now asked.now.request.now edns.old asked.now.moment asked.now.query.now reply ×
+        ZoneReply (server_of H.ZoneHandler S.signature_for asked.now.catalog.now) asked.now.chain.now
+        (record { request = asked.now.request.now; query = asked.now.query.now }) edns.old asked.now.moment reply ×
         Sends R.ResponseHandler asked.now.request.now.message.metadata sink.old sink.new reply (header_of info)) }
     ensures refused { IfErr result (λ e. (e ≡ CatalogError.Memory) × IsUntouched R.ResponseHandler sink.old sink.new) }
 {
@@ -474,17 +502,19 @@ fn answer_alone<'q, S: ReplySigner, H: ZoneHandler, R: ResponseHandler>(
     answer_searched(asked, handler, edns, sink)
 }
 
-/// Answers a query of a zone by its handlers, but for a transfer, and hands the reply over, with this EDNS. What they answer is put in this place.
+/// Answers a query of a zone by its handlers, but for a transfer, and hands the reply over, with this EDNS. What they
+/// answer is put in this place.
 fn answer_in_place<'q, S: ReplySigner, H: ZoneHandler, R: ResponseHandler>(
     asked: &ZoneQuery<'q, S, H>,
     edns: &mut Option<Edns>,
     sink: &mut R,
     answer: &mut ChainAnswer<'q>,
 ) -> Result<ResponseInfo, CatalogError>
-    requires lookup { (asked.now.query.now.query_type == 252) ≡ false }
+    requires lookup { (asked.now.query.now.query_type == type_axfr) ≡ false }
     requires unsigned { answer.old.given.1 ≡ None }
     ensures replied { IfOk result (λ info. (reply : Reply) ×
-        ZoneReply (server_of H.ZoneHandler S.signature_for asked.now.catalog.now) asked.now.chain.now asked.now.request.now edns.old asked.now.moment asked.now.query.now reply ×
+        ZoneReply (server_of H.ZoneHandler S.signature_for asked.now.catalog.now) asked.now.chain.now
+        (record { request = asked.now.request.now; query = asked.now.query.now }) edns.old asked.now.moment reply ×
         Sends R.ResponseHandler asked.now.request.now.message.metadata sink.old sink.new reply (header_of info)) }
     ensures refused { IfErr result (λ e. (e ≡ CatalogError.Memory) × IsUntouched R.ResponseHandler sink.old sink.new) }
 {
@@ -508,9 +538,10 @@ fn answer_by_chain<S: ReplySigner, H: ZoneHandler, R: ResponseHandler>(
     edns: &mut Option<Edns>,
     sink: &mut R,
 ) -> Result<ResponseInfo, CatalogError>
-    requires { (asked.now.query.now.query_type == 252) ≡ false }
+    requires { (asked.now.query.now.query_type == type_axfr) ≡ false }
     ensures replied { IfOk result (λ info. (reply : Reply) ×
-        ZoneReply (server_of H.ZoneHandler S.signature_for asked.now.catalog.now) asked.now.chain.now asked.now.request.now edns.old asked.now.moment asked.now.query.now reply ×
+        ZoneReply (server_of H.ZoneHandler S.signature_for asked.now.catalog.now) asked.now.chain.now
+        (record { request = asked.now.request.now; query = asked.now.query.now }) edns.old asked.now.moment reply ×
         Sends R.ResponseHandler asked.now.request.now.message.metadata sink.old sink.new reply (header_of info)) }
     ensures refused { IfErr result (λ e. (e ≡ CatalogError.Memory) × IsUntouched R.ResponseHandler sink.old sink.new) }
 {
@@ -524,9 +555,10 @@ fn answer_lookup<S: ReplySigner, H: ZoneHandler, R: ResponseHandler>(
     edns: &mut Option<Edns>,
     sink: &mut R,
 ) -> Result<ResponseInfo, CatalogError>
-    requires { (asked.now.query.now.query_type == 252) ≡ false }
+    requires { (asked.now.query.now.query_type == type_axfr) ≡ false }
     ensures replied { IfOk result (λ info. (reply : Reply) ×
-        ZoneReply (server_of H.ZoneHandler S.signature_for asked.now.catalog.now) asked.now.chain.now asked.now.request.now edns.old asked.now.moment asked.now.query.now reply ×
+        ZoneReply (server_of H.ZoneHandler S.signature_for asked.now.catalog.now) asked.now.chain.now
+        (record { request = asked.now.request.now; query = asked.now.query.now }) edns.old asked.now.moment reply ×
         Sends R.ResponseHandler asked.now.request.now.message.metadata sink.old sink.new reply (header_of info)) }
     ensures refused { IfErr result (λ e. (e ≡ CatalogError.Memory) × IsUntouched R.ResponseHandler sink.old sink.new) }
 {

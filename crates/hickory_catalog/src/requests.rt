@@ -1,7 +1,7 @@
 //! Which requests are looked into.
 
 ghost use Rattle.std.specs.Prelude.{◌≡◌};
-ghost use Rattle.hickory_catalog.specs.Requests.{header_fault, request_fault};
+ghost use Rattle.hickory_catalog.specs.requests.Requests.{header_fault, request_fault};
 
 use hickory_base::message_request::MessageRequest;
 use hickory_wire::{MessageType, OpCode, ResponseCode};

@@ -4,10 +4,10 @@ ghost use Rattle.std.specs.Prelude.{◌≡◌, IfOk, IfErr};
 ghost use Rattle.std.specs.Iterator.{IsFinite};
 ghost use Rattle.std.specs.Option.{option_copied};
 ghost use Rattle.wire_messages.specs.serialize.writing.Reply.{Reply};
-ghost use Rattle.hickory_base.specs.responses.Responses.{IsReplyBy, header_of};
-ghost use Rattle.hickory_catalog.specs.Replies.{contents_of, error_reply, plain_reply};
-ghost use Rattle.hickory_catalog.specs.Sending.{Fails, Sends, Takes, failure_header};
-ghost use Rattle.hickory_catalog.specs.Transfers.{message_of_transfer};
+ghost use Rattle.hickory_base.specs.responses.Responses.{GivesBy, IsReplyOf, header_of};
+ghost use Rattle.hickory_catalog.specs.replies.Replies.{contents_of, error_reply, plain_reply};
+ghost use Rattle.hickory_catalog.specs.replies.Sending.{Fails, Sends, Takes, failure_header};
+ghost use Rattle.hickory_catalog.specs.transfers.Transfers.{message_of_transfer};
 
 use crate::authoritative::authoritative_metadata;
 use crate::contents::{ReplyContents, response};
@@ -61,9 +61,13 @@ where
     requires soa { S.can_next response.soa × IsFinite (S.remaining response.soa) }
     requires additionals { D.can_next response.additionals × IsFinite (D.remaining response.additionals) }
     // The reply that is sent is the one that the response determines.
-    ensures taken { IfOk result (λ info. (reply : Reply) → ((r : Reply) → IsReplyBy A.next_gives A.Item.record_of N.next_gives N.Item.record_of S.next_gives S.Item.record_of D.next_gives D.Item.record_of response.entry r → r ≡ reply)
+    ensures taken { IfOk result (λ info. (reply : Reply) →
+        ((r : Reply) → IsReplyOf (GivesBy A.next_gives A.Item.record_of) (GivesBy N.next_gives N.Item.record_of)
+        (GivesBy S.next_gives S.Item.record_of) (GivesBy D.next_gives D.Item.record_of) response.entry r → r ≡ reply)
         → Takes R.ResponseHandler sink.old sink.new reply (header_of info)) }
-    ensures failed { IfErr result (λ info. (reply : Reply) → ((r : Reply) → IsReplyBy A.next_gives A.Item.record_of N.next_gives N.Item.record_of S.next_gives S.Item.record_of D.next_gives D.Item.record_of response.entry r → r ≡ reply)
+    ensures failed { IfErr result (λ info. (reply : Reply) →
+        ((r : Reply) → IsReplyOf (GivesBy A.next_gives A.Item.record_of) (GivesBy N.next_gives N.Item.record_of)
+        (GivesBy S.next_gives S.Item.record_of) (GivesBy D.next_gives D.Item.record_of) response.entry r → r ≡ reply)
         → Fails R.ResponseHandler request.now sink.old sink.new reply (header_of info)) }
 {
     match sink.send_response(alloc, response) {
@@ -93,7 +97,8 @@ pub(crate) fn send_contents<R: ResponseHandler>(
     signature: Option<Boxed<Record<TSIG>>>,
 ) -> ResponseInfo
     ensures { Sends R.ResponseHandler request.now.metadata sink.old sink.new
-        (record (plain_reply request.now (option_copied edns.entry) (contents_of contents.now)) { signature = signature }) (header_of result) }
+        (record (plain_reply request.now (option_copied edns.entry) (contents_of contents.now))
+        { signature = signature }) (header_of result) }
 {
     let mut response = response(request, edns, contents);
     response.signature = signature;
@@ -113,7 +118,14 @@ pub(crate) fn send_lent<R: ResponseHandler>(
     additionals: &[Record],
 ) -> ResponseInfo
     ensures { Sends R.ResponseHandler request.now.metadata sink.old sink.new
-        (plain_reply request.now (option_copied edns.entry) (record { metadata = metadata; answers = answers.now; authorities = authorities.now; additionals = additionals.now })) (header_of result) }
+        (plain_reply request.now (option_copied edns.entry)
+        (record {
+          metadata = metadata;
+          answers = answers.now;
+          authorities = authorities.now;
+          additionals =
+              additionals.now;
+        })) (header_of result) }
 {
     match sink.send_lent(
         alloc,
@@ -129,8 +141,8 @@ pub(crate) fn send_lent<R: ResponseHandler>(
     }
 }
 
-/// Hands over the records of one reply of a transfer, with this EDNS. The answer tells what the sink tells of it, or where the sink fails that it
-/// failed.
+/// Hands over the records of one reply of a transfer, with this EDNS. The answer tells what the sink tells of it, or
+/// where the sink fails that it failed.
 pub(crate) fn send_records<R: ResponseHandler>(
     sink: &mut R,
     alloc: Global,
@@ -138,8 +150,10 @@ pub(crate) fn send_records<R: ResponseHandler>(
     edns: Option<&Edns>,
     records: &[Record],
 ) -> Result<ResponseInfo, ResponseInfo>
-    ensures taken { IfOk result (λ info. Takes R.ResponseHandler sink.old sink.new (message_of_transfer request.now (option_copied edns.entry) records.now) (header_of info)) }
-    ensures failed { IfErr result (λ info. Fails R.ResponseHandler request.now.metadata sink.old sink.new (message_of_transfer request.now (option_copied edns.entry) records.now) (header_of info)) }
+    ensures taken { IfOk result (λ info. Takes R.ResponseHandler sink.old sink.new
+        (message_of_transfer request.now (option_copied edns.entry) records.now) (header_of info)) }
+    ensures failed { IfErr result (λ info. Fails R.ResponseHandler request.now.metadata sink.old sink.new
+        (message_of_transfer request.now (option_copied edns.entry) records.now) (header_of info)) }
 {
     let metadata = authoritative_metadata(&request.metadata, ResponseCode::NO_ERROR);
     match sink.send_lent(alloc, &request.queries, edns, metadata, records, &[], &[]) {
@@ -157,7 +171,8 @@ pub(crate) fn send_error<R: ResponseHandler>(
     edns: &mut Option<Edns>,
     code: ResponseCode,
 ) -> ResponseInfo
-    ensures { Sends R.ResponseHandler request.now.metadata sink.old sink.new (error_reply request.now edns.old code) (header_of result) }
+    ensures { Sends R.ResponseHandler request.now.metadata sink.old sink.new (error_reply request.now edns.old code)
+        (header_of result) }
 {
     set_high_code(code, edns);
     let contents = ReplyContents::error(&request.metadata, code);

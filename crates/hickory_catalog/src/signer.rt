@@ -37,6 +37,8 @@ pub trait ReplySigner: Drop {
         context: &TSigResponseContext,
         bytes: &[u8],
     ) -> Result<Boxed<Record<TSIG>>, SignError>
-        ensures signed { IfOk result (λ signature. signature_for self.now context.entry.now bytes.now ≡ Some signature) }
-        ensures failed { IfErr result (λ e. e ≢ SignError.Memory → signature_for self.now context.entry.now bytes.now ≡ None) };
+        ensures signed { IfOk result (λ signature.
+            signature_for self.now context.entry.now bytes.now ≡ Some signature) }
+        ensures failed { IfErr result (λ e. e ≢ SignError.Memory →
+            signature_for self.now context.entry.now bytes.now ≡ None) };
 }

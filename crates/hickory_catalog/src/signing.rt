@@ -7,9 +7,9 @@ ghost use Rattle.wire_messages.specs.serialize.writing.Reply.{Reply};
 ghost use Rattle.hickory_wire.specs.serialize.writing.ReplyParts.{CannotBeWritten};
 ghost use Rattle.wire_writing.specs.serialize.writing.Writing.{Fronts, Written};
 ghost use Rattle.hickory_base.specs.responses.Responses.{header_of};
-ghost use Rattle.hickory_catalog.specs.Replies.{contents_of, plain_reply};
-ghost use Rattle.hickory_catalog.specs.Sending.{IsUntouched, Sends};
-ghost use Rattle.hickory_catalog.specs.Signing.{IsSignatureOf, SignedReply};
+ghost use Rattle.hickory_catalog.specs.replies.Replies.{contents_of, plain_reply};
+ghost use Rattle.hickory_catalog.specs.replies.Sending.{IsUntouched, Sends};
+ghost use Rattle.hickory_catalog.specs.replies.Signing.{IsSignatureOf, SignedReply};
 
 use crate::contents::{ReplyContents, response};
 use crate::edns::set_high_code;
@@ -32,8 +32,12 @@ fn emit(
 ) -> Result<ResponseInfo, ProtoError>
     requires { written_bytes encoder.old ≡ [] }
     ensures same_vector { IsSameVector encoder.old encoder.new }
-    ensures written { OnOk result ((fronts : Fronts) × Written (max_size encoder.old) (plain_reply request.now (option_copied edns.entry) (contents_of contents.now)) (written_bytes encoder.new) fronts) }
-    ensures refused { IfErr result (λ e. e ≢ ProtoError.Memory → CannotBeWritten (max_size encoder.old) (plain_reply request.now (option_copied edns.entry) (contents_of contents.now)) e) }
+    ensures written { OnOk result ((fronts : Fronts) ×
+        Written (max_size encoder.old) (plain_reply request.now (option_copied edns.entry) (contents_of contents.now))
+        (written_bytes encoder.new) fronts) }
+    ensures refused { IfErr result (λ e. e ≢ ProtoError.Memory →
+        CannotBeWritten (max_size encoder.old)
+        (plain_reply request.now (option_copied edns.entry) (contents_of contents.now)) e) }
 {
     response(request, edns, contents).destructive_emit(encoder)
 }
@@ -45,8 +49,11 @@ fn written(
     edns: Option<&Edns>,
     contents: &ReplyContents<'_>,
 ) -> Result<Vec<u8>, ProtoError>
-    ensures written { IfOk result (λ bytes. (fronts : Fronts) × Written 65535 (plain_reply request.now (option_copied edns.entry) (contents_of contents.now)) bytes.items fronts) }
-    ensures refused { IfErr result (λ e. e ≢ ProtoError.Memory → CannotBeWritten 65535 (plain_reply request.now (option_copied edns.entry) (contents_of contents.now)) e) }
+    ensures written { IfOk result (λ bytes. (fronts : Fronts) ×
+        Written 65535 (plain_reply request.now (option_copied edns.entry) (contents_of contents.now)) bytes.items
+        fronts) }
+    ensures refused { IfErr result (λ e. e ≢ ProtoError.Memory →
+        CannotBeWritten 65535 (plain_reply request.now (option_copied edns.entry) (contents_of contents.now)) e) }
 {
     let mut bytes = Vec::new(alloc);
     emit(
@@ -78,8 +85,11 @@ fn signature<S: ReplySigner>(
     contents: &ReplyContents<'_>,
     context: &TSigResponseContext,
 ) -> Result<Boxed<Record<TSIG>>, SignError>
-    ensures signed { IfOk result (λ signature. IsSignatureOf (S.signature_for signer.now) context.entry.now (plain_reply request.now (option_copied edns.entry) (contents_of contents.now)) (Some signature)) }
-    ensures failed { IfErr result (λ e. e ≢ SignError.Memory → IsSignatureOf (S.signature_for signer.now) context.entry.now (plain_reply request.now (option_copied edns.entry) (contents_of contents.now)) None) }
+    ensures signed { IfOk result (λ signature. IsSignatureOf (S.signature_for signer.now) context.entry.now
+        (plain_reply request.now (option_copied edns.entry) (contents_of contents.now)) (Some signature)) }
+    ensures failed { IfErr result (λ e. e ≢ SignError.Memory →
+        IsSignatureOf (S.signature_for signer.now) context.entry.now
+        (plain_reply request.now (option_copied edns.entry) (contents_of contents.now)) None) }
 {
     match written(alloc, request, edns, contents) {
         Ok(bytes) => signer.sign(alloc, context, bytes.as_slice()),
@@ -87,8 +97,8 @@ fn signature<S: ReplySigner>(
     }
 }
 
-/// Hands over the reply that says this, with this EDNS, signed as this context has it. Where it cannot be signed, the reply is ServFail without a
-/// signature.
+/// Hands over the reply that says this, with this EDNS, signed as this context has it. Where it cannot be signed, the
+/// reply is ServFail without a signature.
 #[inline(never)]
 pub(crate) fn send_with_signature<S: ReplySigner, R: ResponseHandler>(
     signer: &S,
@@ -100,7 +110,8 @@ pub(crate) fn send_with_signature<S: ReplySigner, R: ResponseHandler>(
     sink: &mut R,
 ) -> Result<ResponseInfo, CatalogError>
     ensures replied { IfOk result (λ info. (reply : Reply) ×
-        SignedReply (S.signature_for signer.now) request.now edns.old (contents_of contents.now) (Some context.entry.now) reply ×
+        SignedReply (S.signature_for signer.now) request.now edns.old (contents_of contents.now)
+        (Some context.entry.now) reply ×
         Sends R.ResponseHandler request.now.metadata sink.old sink.new reply (header_of info)) }
     ensures refused { IfErr result (λ e. (e ≡ CatalogError.Memory) × IsUntouched R.ResponseHandler sink.old sink.new) }
 {
@@ -118,7 +129,7 @@ pub(crate) fn send_with_signature<S: ReplySigner, R: ResponseHandler>(
     }
 }
 
-/// The same, signed where the answer came with a context.
+/// Hands a reply to the sink, signed where the answer came with a context.
 #[inline(always)]
 pub(crate) fn send_signed<S: ReplySigner, R: ResponseHandler>(
     signer: &S,

@@ -6,9 +6,9 @@ ghost use Rattle.wire_messages.specs.serialize.writing.Reply.{Reply};
 ghost use Rattle.wire_messages.specs.declared.rr.rdata.RData.{RData};
 ghost use Rattle.wire_messages.specs.declared.rr.record.Record.{Record};
 ghost use Rattle.hickory_base.specs.responses.Responses.{header_of};
-ghost use Rattle.hickory_catalog.specs.Runs.{IsRoom, IsRunLength};
-ghost use Rattle.hickory_catalog.specs.Sending.{SendsInOrder};
-ghost use Rattle.hickory_catalog.specs.Transfers.{AreRuns, AreTransferReplies, size_without_answers, message_of_transfer};
+ghost use Rattle.hickory_catalog.specs.representation.Runs.{IsRoom, IsRunLength};
+ghost use Rattle.hickory_catalog.specs.replies.Sending.{SendsInOrder};
+ghost use Rattle.hickory_catalog.specs.transfers.Transfers.{AreRuns, AreTransferReplies, size_without_answers, message_of_transfer};
 
 use crate::edns::set_high_code;
 use crate::sending::send_records;
@@ -20,7 +20,8 @@ use std::alloc::Global;
 // The size of a message behind a length of 16 bits (RFC 1035 section 4.2.2).
 const LARGEST_MESSAGE: usize = 65535;
 
-/// How many bytes each message of a transfer has for its answers, 0 where header, questions and OPT record take more than there is.
+/// How many bytes each message of a transfer has for its answers, 0 where header, questions and OPT record take more
+/// than there is.
 fn room_for_answers(request: &MessageRequest, edns: Option<&Edns>) -> usize
     ensures { IsRoom (size_without_answers request.now (option_copied edns.entry)) result }
 {
@@ -57,7 +58,8 @@ fn send_runs<R: ResponseHandler>(
     edns: Option<&Edns>,
     records: &[Record],
 ) -> ResponseInfo
-    ensures { (runs : List (List (Record RData))) × AreRuns (size_without_answers request.now (option_copied edns.entry)) records.now runs ×
+    ensures { (runs : List (List (Record RData))) ×
+        AreRuns (size_without_answers request.now (option_copied edns.entry)) records.now runs ×
         SendsInOrder R.ResponseHandler request.now.metadata sink.old sink.new
         (map (message_of_transfer request.now (option_copied edns.entry)) runs) (header_of result) }
 {
@@ -78,8 +80,8 @@ fn send_runs<R: ResponseHandler>(
     }
 }
 
-/// Hands over the replies of a transfer of these records, with this EDNS, one after the other, until the sink fails. What is told is of the last
-/// that was handed over. Only the sink takes memory.
+/// Hands over the replies of a transfer of these records, with this EDNS, one after the other, until the sink fails.
+/// What is told is of the last that was handed over. Only the sink takes memory.
 pub(crate) fn send_transfer<R: ResponseHandler>(
     sink: &mut R,
     alloc: Global,

@@ -1,8 +1,8 @@
 //! Transfers of whole zones (RFC 5936).
 
 ghost use Rattle.std.specs.Prelude.{◌≡◌, true, false, None, Ok, IfSome, IfNone};
-ghost use Rattle.hickory_catalog.specs.Replies.{contents_of};
-ghost use Rattle.hickory_catalog.specs.Transfers.{TransferAsked, is_split, transfer_contents, transfer_fault};
+ghost use Rattle.hickory_catalog.specs.replies.Replies.{contents_of};
+ghost use Rattle.hickory_catalog.specs.transfers.Transfers.{TransferAsked, is_split, transfer_contents, transfer_fault};
 
 use crate::authoritative::{authoritative_metadata, negative_code, refusal_code};
 use crate::chains::options_of;
@@ -43,7 +43,8 @@ pub(crate) fn split_records<'t>(
     outcome: &'t Result<ZoneTransfer, LookupError>,
     context: &Option<TSigResponseContext>,
 ) -> Option<&'t [Record]>
-    ensures split { IfSome result (λ records. (context.now ≡ None) × (outcome.now ≡ Ok (record { records = records.now })) × (is_split transport outcome.now context.now ≡ true)) }
+    ensures split { IfSome result (λ records. (context.now ≡ None) ×
+        (outcome.now ≡ Ok (record { records = records.now })) × (is_split transport outcome.now context.now ≡ true)) }
     ensures whole { IfNone result (is_split transport outcome.now context.now ≡ false) }
 {
     match outcome {

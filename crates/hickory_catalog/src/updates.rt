@@ -4,11 +4,11 @@ ghost use Rattle.std.specs.Prelude.{◌≡◌, ◌<◌, ◌^◌, ℕ, IfOk, IfEr
 ghost use Rattle.std.specs.Option.{option_copied};
 ghost use Rattle.wire_messages.specs.serialize.writing.Reply.{Reply};
 ghost use Rattle.hickory_base.specs.responses.Responses.{header_of};
-ghost use Rattle.hickory_catalog.specs.Replies.{contents_of};
-ghost use Rattle.hickory_catalog.specs.Sending.{IsUntouched, Sends};
-ghost use Rattle.hickory_catalog.specs.Server.{server_of};
-ghost use Rattle.hickory_catalog.specs.Signing.{SignedReply};
-ghost use Rattle.hickory_catalog.specs.Updates.{ChainUpdated, HandlerUpdated, UpdateLeaves, UpdateReply, fault_after, update_code, update_contents, updated_zone};
+ghost use Rattle.hickory_catalog.specs.replies.Replies.{contents_of};
+ghost use Rattle.hickory_catalog.specs.replies.Sending.{IsUntouched, Sends};
+ghost use Rattle.hickory_catalog.specs.requests.Server.{server_of};
+ghost use Rattle.hickory_catalog.specs.replies.Signing.{SignedReply};
+ghost use Rattle.hickory_catalog.specs.updates.Updates.{ChainUpdated, HandlerUpdated, UpdateLeaves, UpdateReply, fault_after, update_code, update_contents, updated_zone};
 
 use crate::catalog::Catalog;
 use crate::contents::ReplyContents;
@@ -57,7 +57,8 @@ fn update_handler<H: ZoneHandler>(
     request: &Request,
     now: u64,
 ) -> (Result<bool, UpdateFault>, Option<TSigResponseContext>)
-    ensures { HandlerUpdated H.ZoneHandler (H.zone_type_of handler.old) request.now now handler.old result.0 result.1 handler.new }
+    ensures { HandlerUpdated H.ZoneHandler (H.zone_type_of handler.old) (request.now, now) handler.old result
+        handler.new }
 {
     match handler.zone_type() {
         ZoneType::Primary => handler.update(alloc, request, now),
@@ -73,7 +74,7 @@ pub(crate) fn update_chain<H: ZoneHandler>(
     request: &Request,
     now: u64,
 ) -> Option<(Result<bool, UpdateFault>, Option<TSigResponseContext>)>
-    ensures { ChainUpdated H.ZoneHandler request.now now chain.old.items result chain.new.items }
+    ensures { ChainUpdated H.ZoneHandler (request.now, now) chain.old.items result chain.new.items }
 {
     if chain.is_empty() {
         return None;
@@ -122,10 +123,13 @@ fn answer_updated<S: ReplySigner, R: ResponseHandler>(
     context: &Option<TSigResponseContext>,
     sink: &mut R,
 ) -> Result<ResponseInfo, CatalogError>
-    ensures replied { IfOk result (λ info. (reply : Reply) × (code : ℕ) × (update_code answer.now ≡ Some code) × (code < 2 ^ 12) ×
-        SignedReply (S.signature_for signer.now) request.now.message edns.old (update_contents request.now.message.metadata.id code) context.now reply ×
+    ensures replied { IfOk result (λ info. (reply : Reply) × (code : ℕ) × (update_code answer.now ≡ Some code) ×
+        (code < 2 ^ 12) ×
+        SignedReply (S.signature_for signer.now) request.now.message edns.old
+        (update_contents request.now.message.metadata.id code) context.now reply ×
         Sends R.ResponseHandler request.now.message.metadata sink.old sink.new reply (header_of info)) }
-    ensures refused { IfErr result (λ e. (e ≡ fault_after answer.now) × IsUntouched R.ResponseHandler sink.old sink.new) }
+    ensures refused { IfErr result (λ e. (e ≡ fault_after answer.now) ×
+        IsUntouched R.ResponseHandler sink.old sink.new) }
 {
     let Some(code) = update_code(answer) else {
         return Err(CatalogError::Memory);
@@ -151,9 +155,11 @@ pub(crate) fn answer_update<S: ReplySigner, H: ZoneHandler, R: ResponseHandler>(
     sink: &mut R,
 ) -> Result<ResponseInfo, CatalogError>
     ensures replied { IfOk result (λ info. (reply : Reply) ×
-        UpdateReply (server_of H.ZoneHandler S.signature_for catalog.old) request.now edns.old now reply catalog.new.zones ×
+        UpdateReply (server_of H.ZoneHandler S.signature_for catalog.old) request.now edns.old now reply
+        catalog.new.zones ×
         Sends R.ResponseHandler request.now.message.metadata sink.old sink.new reply (header_of info)) }
-    ensures refused { IfErr result (λ e. UpdateLeaves (server_of H.ZoneHandler S.signature_for catalog.old) request.now now e catalog.new.zones ×
+    ensures refused { IfErr result
+        (λ e. UpdateLeaves (server_of H.ZoneHandler S.signature_for catalog.old) request.now now e catalog.new.zones ×
         IsUntouched R.ResponseHandler sink.old sink.new) }
     ensures others { catalog.new ≡ record catalog.old { zones = catalog.new.zones } }
 {

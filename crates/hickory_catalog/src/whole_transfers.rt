@@ -3,9 +3,9 @@
 ghost use Rattle.std.specs.Prelude.{◌≡◌, List, IfOk, IfErr};
 ghost use Rattle.wire_messages.specs.serialize.writing.Reply.{Reply};
 ghost use Rattle.hickory_base.specs.responses.Responses.{header_of};
-ghost use Rattle.hickory_catalog.specs.Sending.{IsUntouched, SendsInOrder};
-ghost use Rattle.hickory_catalog.specs.Server.{server_of};
-ghost use Rattle.hickory_catalog.specs.WholeTransfers.{TransferReplies};
+ghost use Rattle.hickory_catalog.specs.replies.Sending.{IsUntouched, SendsInOrder};
+ghost use Rattle.hickory_catalog.specs.requests.Server.{server_of};
+ghost use Rattle.hickory_catalog.specs.transfers.WholeTransfers.{TransferReplies};
 
 use crate::catalog::Catalog;
 use crate::queries::{ZoneQuery, give_transfer};
@@ -17,7 +17,8 @@ use hickory_base::zone_store::ZoneHandler;
 use hickory_wire::{Edns, ResponseCode};
 use std::alloc::Global;
 
-/// Answers a query by the whole zone of its name, whatever type it asks for, and hands the replies over, with this EDNS.
+/// Answers a query by the whole zone of its name, whatever type it asks for, and hands the replies over, with this
+/// EDNS.
 pub(crate) fn answer_by_transfer<S: ReplySigner, H: ZoneHandler, R: ResponseHandler>(
     catalog: &Catalog<S, H>,
     alloc: Global,

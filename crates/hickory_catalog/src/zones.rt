@@ -2,10 +2,10 @@
 
 ghost use Rattle.std.specs.Prelude.{◌≡◌, ◌↔◌, [], true, IfOk, IfErr, OnErr, IsTrue, Some, None, option_map};
 ghost use Rattle.wire_names.specs.rr.domain.NameOrder.{Encloses};
-ghost use Rattle.hickory_catalog.specs.Zones.{AreInOrder, HasZone, ChangesAt};
-ghost use Rattle.hickory_catalog.specs.Updates.{ZoneUpdated};
-ghost use Rattle.hickory_catalog.specs.Find.{Finds, OneAnswers, CaseDoesNotMatter};
-ghost use Rattle.hickory_catalog.specs.Search.{AnswerFromAbove, LastUpTo};
+ghost use Rattle.hickory_catalog.specs.zones.Zones.{AreInOrder, HasZone, ChangesAt};
+ghost use Rattle.hickory_catalog.specs.updates.Updates.{ZoneUpdated};
+ghost use Rattle.hickory_catalog.specs.zones.Find.{Finds, OneAnswers, CaseDoesNotMatter};
+ghost use Rattle.hickory_catalog.specs.representation.Search.{AnswerFromAbove, LastUpTo};
 
 use crate::updates::{ZoneUpdate, update_chain};
 use hickory_base::server::Request;
@@ -96,7 +96,8 @@ impl<H: Drop> Zones<H> {
         if !name.as_name().is_fqdn() {
             return Ok(self.chains.get(name));
         }
-        // speed: served, an address. No zone stands behind the last one, so where that one encloses the name none is nearer.
+        // speed: served, an address. No zone stands behind the last one, so where that one encloses the name none is
+        // nearer.
         if let Some((apex, chain)) = self.chains.last_key_value()
             && answers_for(apex, name)
         {
@@ -105,14 +106,16 @@ impl<H: Drop> Zones<H> {
         self.find_among(name)
     }
 
-    /// The chain of handlers of the zone that answers for a fully qualified name: of the nearest zone above it or at it.
+    /// The chain of handlers of the zone that answers for a fully qualified name: of the nearest zone above it or at
+    /// it.
     #[inline(never)]
     fn find_among(&self, name: &LowerName) -> Result<Option<&Vec<H>>, AllocError>
         requires { name.now.is_fqdn ≡ true }
         ensures found { IfOk result (λ found. Finds self.now name.now (option_map (λ chain. chain.now.items) found)) }
         ensures ordered { AreInOrder self.now }
     {
-        // What a name encloses stands right behind it, in the order of names: so this one is the nearest, or stands beside.
+        // What a name encloses stands right behind it, in the order of names: so this one is the nearest, or stands
+        // beside.
         let Some((apex, chain)) = self.last_up_to(name) else {
             return Ok(None);
         };
@@ -122,8 +125,8 @@ impl<H: Drop> Zones<H> {
         self.find_above(name, apex)
     }
 
-    /// The chain of handlers of the zone that answers for a fully qualified name, where only zones above both it and the
-    /// other name may answer.
+    /// The chain of handlers of the zone that answers for a fully qualified name, where only zones above both it and
+    /// the other name may answer.
     #[inline(never)]
     fn find_above(&self, name: &LowerName, other: &LowerName) -> Result<Option<&Vec<H>>, AllocError>
         requires qualified { name.now.is_fqdn ≡ true }
@@ -164,7 +167,7 @@ impl<H: ZoneHandler> Zones<H> {
         request: &Request,
         now: u64,
     ) -> ZoneUpdate
-        ensures { ZoneUpdated H.ZoneHandler request.now now name.now self.old result self.new }
+        ensures { ZoneUpdated H.ZoneHandler (request.now, now) name.now self.old result self.new }
     {
         let Some(chain) = self.chains.get_mut(name) else {
             return ZoneUpdate::NoZone;

@@ -1,11 +1,3 @@
-pub mod Cut
-pub mod DecodedOutcomes
-pub mod Isolation
-pub mod KeptZones
-pub mod Ruling
-pub mod ServedBy
-pub mod ServedLaws
-pub mod Serving
-pub mod Written
-pub mod ZoneOfText
-pub mod ZoneReplies
+pub mod server
+pub mod store
+pub mod zone_handler

@@ -3,4 +3,4 @@
 
 pub mod blocklist;
 pub mod file;
-pub mod sqlite;
+pub mod updates;

@@ -163,10 +163,14 @@ pub fn worked_sections()
     ensures two_opts { MeetsFault (additionals_after 2 no_additionals) two_opts 0 decode_error.DuplicateEdns }
     ensures second_opt { add_record (with_edns (saying 1232 0 1)) opt_record_at_root ≡ Err decode_error.DuplicateEdns }
     ensures opt_below_root { add_record no_additionals opt_record_at_a ≡ Err decode_error.EdnsNameNotRoot }
-    ensures second_opt_below_root { add_record (with_edns (saying 1232 0 1)) opt_record_at_a ≡ Err decode_error.EdnsNameNotRoot }
-    ensures a_behind_tsig { add_record (with_signature signature_record) (record_of root 1 0 address) ≡ Err decode_error.RecordAfterSignature }
-    ensures opt_behind_tsig { add_record (with_signature signature_record) opt_record_at_a ≡ Err decode_error.RecordAfterSignature }
-    ensures two_tsigs { MeetsFault (additionals_after 2 no_additionals) (tsig_zeros ++ tsig_zeros) 0 decode_error.RecordAfterSignature }
+    ensures second_opt_below_root { add_record (with_edns (saying 1232 0 1)) opt_record_at_a ≡ Err
+        decode_error.EdnsNameNotRoot }
+    ensures a_behind_tsig { add_record (with_signature signature_record)
+        (record_of root 1 0 address) ≡ Err decode_error.RecordAfterSignature }
+    ensures opt_behind_tsig { add_record (with_signature signature_record) opt_record_at_a ≡ Err
+        decode_error.RecordAfterSignature }
+    ensures two_tsigs { MeetsFault (additionals_after 2 no_additionals)
+        (tsig_zeros ++ tsig_zeros) 0 decode_error.RecordAfterSignature }
 {}
 
 /// What messages are read as, and which fault is met first where there is none.
@@ -206,12 +210,16 @@ pub fn worked_replies()
 
 /// Which bytes repeat an owner name: a pointer to where it stood, and not the name in full.
 pub fn worked_owner_names()
-    ensures repeated { PutsRepeating 512 (first_owner ∷ []) www_reply_compressed (www_answer ∷ []) (www_reply_compressed ++ www_answer_again) }
-    ensures in_full_again { ¬ PutsRepeating 512 (first_owner ∷ []) www_reply_compressed (www_answer ∷ []) (www_reply_compressed ++ www_answer_bytes) }
-    ensures in_full_first { PutsRepeating 512 [] www_reply_compressed (www_answer ∷ []) (www_reply_compressed ++ www_answer_bytes) }
+    ensures repeated { PutsRepeating 512 (first_owner ∷ []) www_reply_compressed (www_answer ∷ [])
+        (www_reply_compressed ++ www_answer_again) }
+    ensures in_full_again { ¬ PutsRepeating 512 (first_owner ∷ []) www_reply_compressed (www_answer ∷ [])
+        (www_reply_compressed ++ www_answer_bytes) }
+    ensures in_full_first { PutsRepeating 512 [] www_reply_compressed (www_answer ∷ [])
+        (www_reply_compressed ++ www_answer_bytes) }
 {}
 
-/// As which bytes replies may be written with a name in data that ends in a pointer, and behind a record that was left out.
+/// As which bytes replies may be written with a name in data that ends in a pointer, and behind a record that was left
+/// out.
 pub fn worked_pointers()
     ensures exchange { Written 512 mail_reply mail_bytes one_answer }
     ensures exchange_read { ReadsAs message mail_bytes 0 (decoded_message mail_reply [] one_answer) 44 }
@@ -242,11 +250,15 @@ pub fn worked_decoding()
     ensures www_decodable { IsDecodable www_reply (www_question ∷ []) }
     ensures bad_version_decodable { IsDecodable bad_version_reply [] }
     ensures reads { Reads www_reply_in_full (decoded_message www_reply (www_question ∷ []) one_answer) }
-    ensures in_full { ReadsAs message www_reply_in_full 0 (decoded_message www_reply (www_question ∷ []) one_answer) 64 }
-    ensures compressed { ReadsAs message www_reply_compressed 0 (decoded_message www_reply (www_question ∷ []) one_answer) 49 }
-    ensures answer_left_out { ReadsAs message www_reply_cut 0 (decoded_message www_reply (www_question ∷ []) answer_left_out) 33 }
+    ensures in_full { ReadsAs message www_reply_in_full 0 (decoded_message www_reply (www_question ∷ []) one_answer)
+        64 }
+    ensures compressed { ReadsAs message www_reply_compressed 0
+        (decoded_message www_reply (www_question ∷ []) one_answer) 49 }
+    ensures answer_left_out { ReadsAs message www_reply_cut 0
+        (decoded_message www_reply (www_question ∷ []) answer_left_out) 33 }
     ensures lists_cut_apart { ReadsAs message long_reply_cut 0 (decoded_message long_reply [] one_of_three) 58 }
-    ensures hundred_answers { ReadsAs message thirty_answers 0 (decoded_message hundred_answers [] thirty_of_hundred) 507 }
+    ensures hundred_answers { ReadsAs message thirty_answers 0 (decoded_message hundred_answers [] thirty_of_hundred)
+        507 }
     ensures dnssec_ok { ReadsAs message dnssec_ok_bytes 0 (decoded_message dnssec_ok_reply [] opt_alone) 23 }
     ensures bad_version { ReadsAs message bad_version_bytes 0 (decoded_message bad_version_reply [] opt_alone) 23 }
     ensures signed { ReadsAs message signed_bytes 0 (decoded_message signed_reply [] signature_alone) 40 }

@@ -1,8 +1,10 @@
--- Records that help to use others (RFC 1034 section 4.3.2, step 6; RFC 1035 section 3.3): the addresses of the hosts that they name, glue among them (RFC 9471).
+-- Records that help to use others (RFC 1034 section 4.3.2, step 6; RFC 1035 section 3.3): the addresses of the hosts
+-- that they name, glue among them (RFC 9471).
 use Rattle.std.specs.Prelude.{◌≡◌, ℕ, Bool, true, false, not, cond, nat_lt, is_some, ◌==◌, ◌||◌, List, [], ◌∷◌, ◌++◌, drop, length, Option, Some, None, Ok, Err}
 use Rattle.std.specs.List.{list_any}
 use Rattle.wire_names.specs.rr.domain.DomainName.{DomainName}
 use Rattle.wire_names.specs.rr.domain.NameOrder.{lower_name}
+use Rattle.wire_messages.specs.Numbers.{type_a, type_aaaa, type_https, type_mx, type_ns, type_srv, type_svcb}
 use Rattle.wire_messages.specs.rr.RecordData.{type_of}
 use Rattle.wire_messages.specs.serialize.reading.NameReading.{name}
 use Rattle.wire_messages.specs.serialize.reading.Reading.{Read}
@@ -12,19 +14,10 @@ use Rattle.hickory_base.specs.zone_store.ZoneRecords.{is_of}
 use Rattle.hickory_zone.specs.declared.additionals.Source.{Source}
 use Rattle.hickory_zone.specs.declared.additionals.Source.TheVariants as source
 use Rattle.hickory_zone.specs.Chains.{IsIn, owned_by}
-use Rattle.hickory_zone.specs.Zones.{Answers, Outcome, Records, Zone, answer, rrset, type_a, type_aaaa, type_mx, type_ns, wild_answer}
+use Rattle.hickory_zone.specs.Zones.{Answers, Outcome, Records, Zone, answer, rrset, wild_answer}
 
--- Types whose data are octets that hold the name of a host: SRV (RFC 2782), SVCB and HTTPS (RFC 9460 section 2.2).
-abbrev pub type_srv : ℕ
-type_srv = 33
-
-abbrev pub type_svcb : ℕ
-type_svcb = 64
-
-abbrev pub type_https : ℕ
-type_https = 65
-
--- where that name begins: behind priority, weight and port, or behind the priority
+-- where the name of a host begins in data that lie as octets: behind priority, weight and port (SRV, RFC 2782), or
+-- behind the priority (SVCB and HTTPS, RFC 9460 section 2.2)
 abbrev pub target_start : ℕ → Option ℕ
 target_start t = cond (t == type_srv) (Some 6) (cond (t == type_svcb || t == type_https) (Some 2) None)
 
@@ -74,13 +67,14 @@ records_in host (answer rs) = rs
 records_in host (wild_answer rs) = owned_by host rs
 records_in host other = []
 
--- What the zone itself answers for a host, by a wildcard too; nothing of an alias, and nothing of what lies outside, below a cut or below a DNAME.
+-- What the zone itself answers for a host, by a wildcard too; nothing of an alias, and nothing of what lies outside,
+-- below a cut or below a DNAME.
 pub data IsAnswered (zone : Zone) (host : DomainName) (t : ℕ) : Records → Type 0 where
   outside : ¬ (IsIn zone host) → IsAnswered zone host t []
   inside : {outcome : Outcome} → IsIn zone host → Answers zone host t outcome → IsAnswered zone host t (records_in host outcome)
 
--- The records of this type that are to be had for a host: beside an answer what the zone answers for it; beside a referral the RRset as it stands in the zone, glue too
--- (RFC 1034 section 4.2.1).
+-- The records of this type that are to be had for a host: beside an answer what the zone answers for it; beside a
+-- referral the RRset as it stands in the zone, glue too (RFC 1034 section 4.2.1).
 abbrev pub IsHad : Source → Zone → DomainName → ℕ → Records → Type 0
 IsHad source.Answer zone host t rs = IsAnswered zone host t rs
 IsHad source.Glue zone host t rs = rs ≡ some_records (rrset zone.sets host t)

@@ -1,9 +1,11 @@
--- Answers with CNAMEs followed (RFC 1034 sections 3.6.2 and 4.3.2, step 3a), and with names that are redirected (RFC 6672 section 3.2).
+-- Answers with CNAMEs followed (RFC 1034 sections 3.6.2 and 4.3.2, step 3a), and with names that are redirected (RFC
+-- 6672 section 3.2).
 use Rattle.std.specs.Prelude.{◌≡◌, Bool, ℕ, zero, suc, true, false, not, cond, ◌==◌, ◌&&◌, [], ◌∷◌, ◌++◌, filter, map, Option, Some, None}
 use Rattle.std.specs.List.{list_any}
 use Rattle.std.specs.Option.{IsSomeAnd}
 use Rattle.wire_names.specs.rr.domain.DomainName.{DomainName}
 use Rattle.wire_names.specs.rr.domain.NameOrder.{Encloses, lower_name}
+use Rattle.wire_messages.specs.Numbers.{type_cname, type_dname}
 use Rattle.wire_messages.specs.declared.rr.rdata.RData.{RData}
 use Rattle.wire_messages.specs.declared.rr.rdata.RData.TheVariants as rdata
 use Rattle.wire_messages.specs.declared.rr.record.Record.{Record}
@@ -11,7 +13,7 @@ use Rattle.hickory_base.specs.zone_store.ZoneRecords.{is_at}
 use Rattle.hickory_zone.specs.Endings.{Ending}
 use Rattle.hickory_zone.specs.Endings as ended
 use Rattle.hickory_zone.specs.Redirections.{cname_for, is_too_long, substitute, target_in}
-use Rattle.hickory_zone.specs.Zones.{Answers, Outcome, Records, Zone, answer, alias, wild_answer, wild_alias, referral, no_data, no_name, redirection, type_cname, type_dname}
+use Rattle.hickory_zone.specs.Zones.{Answers, Outcome, Records, Zone, answer, alias, wild_answer, wild_alias, referral, no_data, no_name, redirection}
 
 -- the name that data of a CNAME give
 abbrev pub canonical_in : RData → Option DomainName
@@ -53,7 +55,8 @@ once before (r ∷ rs) = cond (owns_dname r.name before) [] (r ∷ rs)
 abbrev pub without_dname : Records → Records
 without_dname rs = filter (λ r. not (is_dname r.rdata)) rs
 
--- what a chain with these records gains by those of a name: its DNAME only where it does not stand there already, so that each record stands once (RFC 2181 section 5)
+-- what a chain with these records gains by those of a name: its DNAME only where it does not stand there already, so
+-- that each record stands once (RFC 2181 section 5)
 abbrev pub not_yet : Records → DomainName → Records → Records
 not_yet before name rs = cond (owns_dname name before) (without_dname rs) rs
 
@@ -74,7 +77,8 @@ abbrev pub redirect_to : ℕ → DomainName → ℕ → Records → Record RData
 redirect_to t name k put r None = leads put None
 redirect_to t name k put r (Some target) = cond (is_too_long (substitute name k target)) (ends put ended.name_too_long) (by_cname t put (cname_for name (substitute name k target) r) (substitute name k target))
 
--- what a chain gains by the DNAME of the k-th ancestor of a name (RFC 6672 section 3.2, step 3C), where these of its records are put
+-- what a chain gains by the DNAME of the k-th ancestor of a name (RFC 6672 section 3.2, step 3C), where these of its
+-- records are put
 abbrev pub redirect : ℕ → DomainName → ℕ → Records → Records → Step
 redirect t name k put [] = leads put None
 redirect t name k put (r ∷ rs) = redirect_to t name k put r (target_in r.rdata)
@@ -90,9 +94,9 @@ step t before name no_data = ends [] ended.no_data
 step t before name no_name = ends [] ended.no_name
 step t before name (redirection k dname) = redirect t name k (once before dname) dname
 
--- The records that the answer section gains for a name and a type, where it has some of a chain before, with at most so many CNAMEs followed, and how they end. The name is
--- spelled as it was asked, and what is synthesized keeps that; it is looked for in lower case. A
--- chain goes on to no name that owns a CNAME of it already (RFC 1034 section 3.6.2).
+-- The records that the answer section gains for a name and a type, where it has some of a chain before, with at most so
+-- many CNAMEs followed, and how they end. The name is spelled as it was asked, and what is synthesized keeps that; it
+-- is looked for in lower case. A chain goes on to no name that owns a CNAME of it already (RFC 1034 section 3.6.2).
 pub data Chases (zone : Zone) (t : ℕ) : ℕ → Records → DomainName → Records → Ending → Type 0 where
   finishes : {left : ℕ} {before : Records} {name : DomainName} {outcome : Outcome} {rs : Records} {ending : Ending} → Answers zone (lower_name name) t outcome → step t before name outcome ≡ ends rs ending → Chases zone t left before name rs ending
   follows : {left : ℕ} {before : Records} {name target : DomainName} {outcome : Outcome} {rs rest : Records} {ending : Ending} → Answers zone (lower_name name) t outcome → step t before name outcome ≡ leads rs (Some target) → IsIn zone target

@@ -4,6 +4,7 @@ use Rattle.std.specs.Bool.{MatchBool}
 use Rattle.std.specs.List.{AllByRecursion}
 use Rattle.wire_names.specs.rr.domain.DomainName.{DomainName}
 use Rattle.wire_names.specs.rr.domain.NameOrder.{lower_name, name_eq}
+use Rattle.wire_messages.specs.Numbers.{class_in, code_no_error, code_not_auth, code_nx_domain, type_ixfr, type_soa}
 use Rattle.wire_messages.specs.declared.op.query.Query.{Query}
 use Rattle.hickory_base.specs.requests.Questions.{one_query}
 use Rattle.hickory_base.specs.requests.Requests.{ReceivedRequest}
@@ -25,8 +26,8 @@ use Rattle.wire_messages.specs.declared.rr.rdata.RData.{RData}
 use Rattle.wire_messages.specs.declared.rr.rdata.RData.TheVariants as rdata
 use Rattle.wire_messages.specs.declared.rr.tsig.TSigResponseContext.{TSigResponseContext}
 use Rattle.hickory_zone.specs.Additionals.{is_hostless}
-use Rattle.hickory_zone.specs.Replies.{RepliesTo, class_in, code_no_error, code_nx_domain, denial_soa, is_class, whole, zone_of}
-use Rattle.hickory_zone.specs.Zones.{Records, Zone, type_ixfr, type_soa}
+use Rattle.hickory_zone.specs.Replies.{RepliesTo, denial_soa, is_class, whole, zone_of}
+use Rattle.hickory_zone.specs.Zones.{Records, Zone}
 
 -- the server holds the zone or a copy of it, so that the catalog puts the SOA into its denials
 abbrev pub is_held : ZoneType → Bool
@@ -34,7 +35,8 @@ is_held Primary = true
 is_held Secondary = true
 is_held External = false
 
--- What stands for the zone's reply: the reply itself; where nothing was followed and nothing is added, records that are not the SOA, or a denial, for which `lookup` gives the SOA.
+-- What stands for the zone's reply: the reply itself; where nothing was followed and nothing is added, records that are
+-- not the SOA, or a denial, for which `lookup` gives the SOA.
 pub data StandsFor (zone : MemoryZone) (query : Query) : Result AuthLookup LookupError → Type 0 where
   in_whole : {reply : WholeReply} → RepliesTo (zone_of zone) query reply → StandsFor zone query (Ok (lookup.Whole reply))
   by_records : {rs : Records} → is_held zone.zone_type ≡ true → (query.query_type == type_soa) ≡ false → AllByRecursion (λ q. is_hostless q.rdata ≡ true) rs
@@ -62,7 +64,8 @@ is_soa zone name t = name_eq zone.origin name && (t == type_soa)
 abbrev pub records_of : WholeReply → Result AuthLookup LookupError
 records_of reply = cond (reply.response_code == code_no_error) (Ok (lookup.Records reply.answers [])) (Err (ResponseCode reply.response_code))
 
--- What a lookup gives, by which the catalog completes a reply: of the zone's SOA that of a denial, else the answer section of what the zone replies.
+-- What a lookup gives, by which the catalog completes a reply: of the zone's SOA that of a denial, else the answer
+-- section of what the zone replies.
 abbrev pub IsLookedUp : Zone → DomainName → ℕ → Result AuthLookup LookupError → Type 0
 IsLookedUp zone name t result = MatchBool (is_soa zone name t) (result ≡ Ok (lookup.Records (denial_soa zone) []))
     ((reply : WholeReply) × RepliesTo zone (question name t) reply × (result ≡ records_of reply))
@@ -74,7 +77,8 @@ LookedUp zone name t answer = (result : _) × (IsLookedUp (zone_of zone) name t 
 abbrev pub names_zone : Zone → Query → Bool
 names_zone zone query = is_class query.query_class && name_eq zone.origin (lower_name query.name)
 
--- the serial of the version of the zone that the client of an IXFR has: that of the SOA in the authority section (RFC 1995 section 3)
+-- the serial of the version of the zone that the client of an IXFR has: that of the SOA in the authority section (RFC
+-- 1995 section 3)
 abbrev pub held_serial : Records → Option ℕ
 held_serial (r ∷ rs) = serial_in r.rdata where
   serial_in : RData → Option ℕ
@@ -91,8 +95,8 @@ abbrev pub is_datagram : Protocol → Bool
 is_datagram Udp = true
 is_datagram other = false
 
--- A query for what changed, IXFR, gets the SOA alone over UDP, where the client turns to TCP for more, and where the version that the client has is no older
--- than the zone's (RFC 1995 section 2).
+-- A query for what changed, IXFR, gets the SOA alone over UDP, where the client turns to TCP for more, and where the
+-- version that the client has is no older than the zone's (RFC 1995 section 2).
 abbrev pub is_by_soa : MemoryZone → ReceivedRequest → Query → Bool
 is_by_soa zone request query =
     query.query_type == type_ixfr && (is_datagram request.protocol || is_no_older (held_serial request.message.authorities) (soa_serial (zone_soa zone)))
@@ -101,10 +105,9 @@ is_by_soa zone request query =
 abbrev pub IsGiven : MemoryZone → ReceivedRequest → Query → Option (Result ZoneTransfer LookupError × Option TSigResponseContext) → Type 0
 IsGiven zone request query answer = MatchBool (is_by_soa zone request query) (SoaTransferred zone answer) (Transferred zone answer)
 
--- A transfer is given of the zone; of any other name the server holds no zone: NOTAUTH,
--- which is 9 (RFC 5936 section 2.2.1).
+-- A transfer is given of the zone; of any other name the server holds no zone: NOTAUTH (RFC 5936 section 2.2.1).
 abbrev pub TransferredFor : MemoryZone → ReceivedRequest → Result Query LookupError → Option (Result ZoneTransfer LookupError × Option TSigResponseContext) → Type 0
-TransferredFor zone request (Ok query) answer = MatchBool (names_zone (zone_of zone) query) (IsGiven zone request query answer) (answer ≡ Some (Err (ResponseCode 9), None))
+TransferredFor zone request (Ok query) answer = MatchBool (names_zone (zone_of zone) query) (IsGiven zone request query answer) (answer ≡ Some (Err (ResponseCode code_not_auth), None))
 TransferredFor zone request (Err e) answer = answer ≡ Some (Err e, None)
 
 abbrev pub TransferAnswered : MemoryZone → ReceivedRequest → Option (Result ZoneTransfer LookupError × Option TSigResponseContext) → Type 0

@@ -2,6 +2,7 @@
 use Rattle.std.specs.Prelude.{◌≡◌, ◌⊎◌, ◌==◌, ◌&&◌, Bool, cond, Option, None, Some, Result, Ok, Err}
 use Rattle.std.specs.Option.{option_map}
 use Rattle.wire_names.specs.rr.domain.NameOrder.{lower_name, name_eq}
+use Rattle.wire_messages.specs.Numbers.{type_ds}
 use Rattle.wire_messages.specs.declared.op.query.Query.{Query}
 use Rattle.hickory_base.specs.requests.Questions.{one_query}
 use Rattle.hickory_base.specs.requests.Requests.{ReceivedRequest}
@@ -16,7 +17,6 @@ use Rattle.hickory_base.specs.declared.zone_store.lookup.WholeReply.{WholeReply}
 use Rattle.hickory_zone.specs.declared.zone_with_parent.ZoneWithParent.{ZoneWithParent}
 use Rattle.hickory_zone.specs.Handled.{StandsFor}
 use Rattle.hickory_zone.specs.Replies.{RepliesTo, zone_of}
-use Rattle.hickory_zone.specs.Zones.{type_ds}
 
 -- The question is for the DS records of the apex of the zone, which stand in the zone above (RFC 4035 section 3.1.4.1).
 abbrev pub is_above : MemoryZone → Query → Bool
@@ -26,7 +26,8 @@ is_above zone query = query.query_type == type_ds && name_eq zone.origin (lower_
 abbrev pub asked_above : ZoneWithParent → Query → Option MemoryZone
 asked_above both query = cond (is_above both.zone.value query) (option_map (λ parent. parent.value) both.parent) None
 
--- What is given for a question: the whole reply of the zone above, where that is asked; else what stands for the reply of the zone.
+-- What is given for a question: the whole reply of the zone above, where that is asked; else what stands for the reply
+-- of the zone.
 abbrev pub IsGiven : MemoryZone → Query → Option MemoryZone → Result AuthLookup LookupError → Type 0
 IsGiven zone query None result = StandsFor zone query result
 IsGiven zone query (Some parent) result = (reply : WholeReply) × RepliesTo (zone_of parent) query reply × (result ≡ Ok (lookup.Whole reply))

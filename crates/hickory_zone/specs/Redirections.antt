@@ -1,12 +1,12 @@
 -- The names that a DNAME makes (RFC 6672).
 use Rattle.std.specs.Prelude.{ℕ, Bool, cond, nat_lt, ◌==◌, List, ◌++◌, length, take, Option, Some, None, Ok, Err}
 use Rattle.wire_names.specs.rr.domain.DomainName.{DomainName, name_len}
+use Rattle.wire_messages.specs.Numbers.{type_dname}
 use Rattle.wire_messages.specs.serialize.reading.NameReading.{name}
 use Rattle.wire_messages.specs.serialize.reading.Reading.{Read}
 use Rattle.wire_messages.specs.declared.rr.rdata.RData.{RData}
 use Rattle.wire_messages.specs.declared.rr.rdata.RData.TheVariants as rdata
 use Rattle.wire_messages.specs.declared.rr.record.Record.{Record}
-use Rattle.hickory_zone.specs.Zones.{type_dname}
 
 abbrev pub read_whole : List ℕ → Read DomainName → Option DomainName
 read_whole bytes (Ok part) = cond (part.1.place == length bytes) (Some part.0) None

@@ -3,6 +3,7 @@ use Rattle.std.specs.Prelude.{◌≡◌, ◌==◌, ◌||◌, ℕ, Bool, true, fa
 use Rattle.std.specs.Option.{option_map, option_to_list}
 use Rattle.wire_names.specs.rr.domain.DomainName.{DomainName}
 use Rattle.wire_names.specs.rr.domain.NameOrder.{lower_name}
+use Rattle.wire_messages.specs.Numbers.{class_any, class_in, code_no_error, code_nx_domain, code_refused, code_yx_domain, type_soa}
 use Rattle.wire_messages.specs.declared.op.query.Query.{Query}
 use Rattle.wire_messages.specs.declared.rr.rdata.RData.{RData}
 use Rattle.wire_messages.specs.declared.rr.rdata.RData.TheVariants as rdata
@@ -14,24 +15,11 @@ use Rattle.hickory_zone.specs.Additionals.{AreAdditionals, hosts_of}
 use Rattle.hickory_zone.specs.Chains.{Chases, IsIn}
 use Rattle.hickory_zone.specs.Endings.{Ending}
 use Rattle.hickory_zone.specs.Endings as ended
-use Rattle.hickory_zone.specs.Zones.{Records, Zone, rrset, type_soa}
+use Rattle.hickory_zone.specs.Zones.{Records, Zone, rrset}
 
 -- its apex and its RRsets
 abbrev pub zone_of : MemoryZone → Zone
 zone_of zone = record { origin = zone.origin; sets = zone.sets }
-
--- Response codes by their names (RFC 1035 section 4.1.1, RFC 2136 section 2.2).
-abbrev pub code_no_error : ℕ
-code_no_error = 0
-
-abbrev pub code_nx_domain : ℕ
-code_nx_domain = 3
-
-abbrev pub code_refused : ℕ
-code_refused = 5
-
-abbrev pub code_yx_domain : ℕ
-code_yx_domain = 6
 
 -- a reply by its code, AA, and the answer, authority and additional sections
 abbrev pub whole : ℕ → Bool → Records → Records → Records → WholeReply
@@ -49,9 +37,11 @@ for_denial r = record r { ttl = denial_ttl r.ttl r.rdata }
 abbrev pub denial_soa : Zone → Records
 denial_soa zone = option_to_list (option_map for_denial (first_record (rrset zone.sets zone.origin type_soa)))
 
--- What is replied where the answer section has these records of a chain, which ends so. The code is that of the last name of the chain (RFC 6604 section 3), YXDOMAIN where a
--- DNAME makes it too long (RFC 6672 section 2.2). AA is that of the first name of the answer section (RFC 1035 section 4.1.1), so a referral has it behind an alias alone
--- (RFC 1034 section 6.2.6). Servers of a zone below stand in the authority section (RFC 1034 section 4.3.2, step 3b), and so does the SOA of a denial (RFC 2308 section 3).
+-- What is replied where the answer section has these records of a chain, which ends so. The code is that of the last
+-- name of the chain (RFC 6604 section 3), YXDOMAIN where a DNAME makes it too long (RFC 6672 section 2.2). AA is that
+-- of the first name of the answer section (RFC 1035 section 4.1.1), so a referral has it behind an alias alone (RFC
+-- 1034 section 6.2.6). Servers of a zone below stand in the authority section (RFC 1034 section 4.3.2, step 3b), and so
+-- does the SOA of a denial (RFC 2308 section 3).
 abbrev pub reply_of : Zone → Records → Ending → Records → WholeReply
 reply_of zone chain ended.answer additionals = whole code_no_error true chain [] additionals
 reply_of zone chain (ended.referral servers) additionals = whole code_no_error (not (length chain == 0)) chain servers additionals
@@ -77,11 +67,8 @@ abbrev pub most_aliases : ℕ
 most_aliases = 8
 
 -- class IN, or any class (RFC 1035 sections 3.2.4 and 3.2.5)
-abbrev pub class_in : ℕ
-class_in = 1
-
 abbrev pub is_class : ℕ → Bool
-is_class class = class == class_in || class == 255
+is_class class = class == class_in || class == class_any
 
 -- The question is of a name in the zone and of its class, which is IN.
 pub record IsOfZone (zone : Zone) (query : Query) : Type 0 where

@@ -1,13 +1,15 @@
--- Worked examples of DNAME: a zone with names that it redirects, and the table of RFC 6672 section 2.2, written out by hand.
+-- Worked examples of DNAME: a zone with names that it redirects, and the table of RFC 6672 section 2.2, written out by
+-- hand.
 use Rattle.std.specs.Prelude.{◌≡◌, ℕ, [], ◌∷◌, ◌++◌, codes, replicate}
 use Rattle.wire_names.specs.rr.domain.DomainName.{DomainName}
 use Rattle.hickory_wire.specs.worked.Worked.{named, record_of, root}
+use Rattle.wire_messages.specs.Numbers.{class_in, type_a, type_cname, type_dname, type_ns, type_soa}
 use Rattle.wire_messages.specs.declared.rr.rdata.RData.{RData}
 use Rattle.wire_messages.specs.declared.rr.rdata.RData.TheVariants as rdata
 use Rattle.wire_messages.specs.declared.rr.record.Record.{Record}
 use Rattle.hickory_zone.specs.Redirections.{substitute}
 use Rattle.hickory_zone.specs.WorkedZones.{address, example, owned, server, soa}
-use Rattle.hickory_zone.specs.Zones.{Redirects, Zone, type_a, type_cname, type_dname, type_ns, type_soa}
+use Rattle.hickory_zone.specs.Zones.{Redirects, Zone}
 
 -- d.example.
 abbrev pub old_home : DomainName
@@ -96,11 +98,11 @@ to_far = rdata.Unknown type_dname (54 ∷ (replicate 54 121 ++ 7 ∷ 101 ∷ 120
 
 -- d.example. 600 IN DNAME t.example.
 abbrev pub moved : Record RData
-moved = record_of old_home 1 600 to_new_home
+moved = record_of old_home class_in 600 to_new_home
 
 -- the CNAME that it makes, of its TTL
 abbrev pub made : DomainName → DomainName → Record RData
-made name target = record_of name 1 600 (rdata.CNAME target)
+made name target = record_of name class_in 600 (rdata.CNAME target)
 
 -- a zone of names that are redirected, with records below a DNAME, which are occluded, and a DNAME below a cut
 abbrev pub redirecting : Zone

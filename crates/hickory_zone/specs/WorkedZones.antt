@@ -1,20 +1,17 @@
--- Worked examples: the zone of RFC 4592 section 2.2.1, one of delegations and aliases, and what is asked of them, written out by hand.
+-- Worked examples: the zone of RFC 4592 section 2.2.1, one of delegations and aliases, and what is asked of them,
+-- written out by hand.
 use Rattle.std.specs.Prelude.{ℕ, [], ◌∷◌, codes}
 use Rattle.wire_names.specs.rr.domain.DomainName.{DomainName}
 use Rattle.hickory_wire.specs.worked.Worked.{named, record_of}
+use Rattle.wire_messages.specs.Numbers.{class_in, type_a, type_cname, type_mx, type_ns, type_soa, type_srv, type_txt}
 use Rattle.wire_messages.specs.declared.rr.rdata.RData.{RData}
 use Rattle.wire_messages.specs.declared.rr.rdata.RData.TheVariants as rdata
 use Rattle.wire_messages.specs.declared.rr.record.Record.{Record}
-use Rattle.hickory_zone.specs.Additionals.{type_srv}
-use Rattle.hickory_zone.specs.Zones.{Zone, type_a, type_cname, type_mx, type_ns, type_soa}
-
--- a type more by its name (RFC 1035 section 3.2.2)
-abbrev pub type_txt : ℕ
-type_txt = 16
+use Rattle.hickory_zone.specs.Zones.{Zone}
 
 -- a record of class IN
 abbrev pub owned : DomainName → RData → Record RData
-owned name content = record_of name 1 3600 content
+owned name content = record_of name class_in 3600 content
 
 -- 192.0.2.n
 abbrev pub address : ℕ → RData

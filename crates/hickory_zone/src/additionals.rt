@@ -6,11 +6,12 @@ ghost use Rattle.std.specs.Option.{option_copied};
 ghost use Rattle.hickory_base.specs.zone_store.ZoneRecords.{is_of};
 ghost use Rattle.hickory_base.specs.zone_store.ZoneSets.{sets_of};
 ghost use Rattle.wire_names.specs.declared.error.DecodeError.TheVariants as decode_error;
-ghost use Rattle.hickory_zone.specs.Zones.{AreOwners, type_a, type_aaaa};
-ghost use Rattle.hickory_zone.specs.Features.{AreFeatures};
+ghost use Rattle.wire_messages.specs.Numbers.{type_a, type_aaaa};
+ghost use Rattle.hickory_zone.specs.Zones.{AreOwners};
+ghost use Rattle.hickory_zone.specs.representation.Features.{AreFeatures};
 ghost use Rattle.hickory_zone.specs.declared.additionals.Source.TheVariants as source;
 ghost use Rattle.hickory_zone.specs.Additionals.{AreAdditionals, Gains, IsHad, at_most_one, first_name, host_in, hosts_of, is_hostless, is_of_hosts, name_from, some_records, target_start};
-ghost use Rattle.hickory_zone.specs.Grown.{AreGained, IsGlue, IsGrown};
+ghost use Rattle.hickory_zone.specs.representation.Grown.{AreGained, IsGlue, IsGrown};
 
 use crate::chains::{append_copies, append_name, append_name_owned, append_owned, is_in};
 use crate::features::Features;
@@ -169,7 +170,8 @@ fn has_of(key: &RrKey, record_type: RecordType, records: &[Record]) -> bool
     records.iter().any(|q| is_of(key, record_type, q))
 }
 
-/// The addresses that stand in the zone under the key's name, where they are taken from there. No type is below that of the key.
+/// The addresses that stand in the zone under the key's name, where they are taken from there. No type is below that of
+/// the key.
 fn glue<'z>(source: Source, sets: &'z BTreeMap<RrKey, Rc<RecordSet>>, host: &RrKey) -> Addresses<'z>
     requires { host.now.record_type ≡ 0 }
     ensures four { IsGlue source (sets_of sets.now) host.now.name type_a (option_copied result.four) }
@@ -207,7 +209,9 @@ fn append_answer(
     requires least { host.now.record_type ≡ 0 }
     requires owners { AreOwners origin.now (sets_of sets.now) }
     requires features { AreFeatures (record { origin = origin.now; sets = sets_of sets.now }) has }
-    ensures { OnOk result (IsGrown (IsHad source.Answer (record { origin = origin.now; sets = sets_of sets.now }) host.now.name record_type) all.old.items all.new.items) }
+    ensures { OnOk result (IsGrown
+        (IsHad source.Answer (record { origin = origin.now; sets = sets_of sets.now }) host.now.name record_type)
+        all.old.items all.new.items) }
 {
     if !is_in(origin, &host.name) {
         return Ok(());
@@ -221,8 +225,8 @@ fn append_answer(
     }
 }
 
-/// Puts copies of the records last that are to be had for the key's name and a type, of which these stand in the zone. No type is below
-/// that of the key.
+/// Puts copies of the records last that are to be had for the key's name and a type, of which these stand in the zone.
+/// No type is below that of the key.
 fn append_from(
     alloc: Global,
     origin: &LowerName,
@@ -238,7 +242,9 @@ fn append_from(
     requires owners { AreOwners origin.now (sets_of sets.now) }
     requires features { AreFeatures (record { origin = origin.now; sets = sets_of sets.now }) has }
     requires stands { IsGlue source (sets_of sets.now) host.now.name record_type (option_copied stands) }
-    ensures { OnOk result (IsGrown (IsHad source (record { origin = origin.now; sets = sets_of sets.now }) host.now.name record_type) all.old.items all.new.items) }
+    ensures { OnOk result (IsGrown
+        (IsHad source (record { origin = origin.now; sets = sets_of sets.now }) host.now.name record_type) all.old.items
+        all.new.items) }
 {
     match source {
         Source::Answer => append_answer(alloc, origin, sets, host, record_type, has, all),
@@ -246,7 +252,8 @@ fn append_from(
     }
 }
 
-/// The same where the reply has no such records yet, whose answers these are and whose additionals stand there.
+/// Puts the addresses of a host behind the others, where a reply of these answers and additionals has no such records
+/// yet.
 fn append_once(
     alloc: Global,
     origin: &LowerName,
@@ -263,7 +270,9 @@ fn append_once(
     requires owners { AreOwners origin.now (sets_of sets.now) }
     requires features { AreFeatures (record { origin = origin.now; sets = sets_of sets.now }) has }
     requires stands { IsGlue source (sets_of sets.now) host.now.name record_type (option_copied stands) }
-    ensures { OnOk result (IsGrown (Gains source (record { origin = origin.now; sets = sets_of sets.now }) (answers.now ++ all.old.items) host.now.name record_type) all.old.items all.new.items) }
+    ensures { OnOk result (IsGrown
+        (Gains source (record { origin = origin.now; sets = sets_of sets.now })
+        (answers.now ++ all.old.items) host.now.name record_type) all.old.items all.new.items) }
 {
     if has_of(host, record_type, answers) || has_of(host, record_type, all.as_slice()) {
         return Ok(());
@@ -294,7 +303,8 @@ fn append_addresses(
 ) -> Result<(), AllocError>
     requires owners { AreOwners origin.now (sets_of sets.now) }
     requires features { AreFeatures (record { origin = origin.now; sets = sets_of sets.now }) has }
-    ensures { OnOk result (AreGained source (record { origin = origin.now; sets = sets_of sets.now }) answers.now name.now all.old.items all.new.items) }
+    ensures { OnOk result (AreGained source (record { origin = origin.now; sets = sets_of sets.now }) answers.now
+        name.now all.old.items all.new.items) }
 {
     let host = RrKey::new(LowerName::new(alloc, name)?, RecordType::new(0));
     let stand = glue(source, sets, &host);
@@ -337,7 +347,9 @@ fn append_each(
 ) -> Result<(), AllocError>
     requires owners { AreOwners origin.now (sets_of sets.now) }
     requires features { AreFeatures (record { origin = origin.now; sets = sets_of sets.now }) has }
-    ensures { OnOk result (IsGrown (AreAdditionals source (record { origin = origin.now; sets = sets_of sets.now }) (answers.now ++ all.old.items) hosts.now) all.old.items all.new.items) }
+    ensures { OnOk result (IsGrown
+        (AreAdditionals source (record { origin = origin.now; sets = sets_of sets.now })
+        (answers.now ++ all.old.items) hosts.now) all.old.items all.new.items) }
 {
     for host in hosts {
         append_addresses(alloc, origin, sets, source, answers, host, has, all)?;
@@ -357,7 +369,8 @@ pub(crate) fn additionals(
 ) -> Result<Vec<Record>, AllocError>
     requires owners { AreOwners origin.now (sets_of sets.now) }
     requires features { AreFeatures (record { origin = origin.now; sets = sets_of sets.now }) has }
-    ensures { IfOk result (λ found. AreAdditionals source (record { origin = origin.now; sets = sets_of sets.now }) answers.now (hosts_of naming.now) found.items) }
+    ensures { IfOk result (λ found. AreAdditionals source (record { origin = origin.now; sets = sets_of sets.now })
+        answers.now (hosts_of naming.now) found.items) }
 {
     let hosts = hosts_of(alloc, naming)?;
     let mut all = Vec::new(alloc);

@@ -6,16 +6,18 @@ ghost use Rattle.std.specs.List.{All};
 ghost use Rattle.std.specs.BTreeMap.{keys};
 ghost use Rattle.hickory_base.specs.zone_store.ZoneSets.{sets_of};
 ghost use Rattle.wire_names.specs.rr.domain.NameOrder.{lower_name};
+ghost use Rattle.wire_messages.specs.Numbers.{code_refused};
 ghost use Rattle.hickory_zone.specs.Chains.{IsIn};
-ghost use Rattle.hickory_zone.specs.Features.{AreFeatures};
+ghost use Rattle.hickory_zone.specs.representation.Features.{AreFeatures};
 ghost use Rattle.hickory_zone.specs.Handled.{question};
-ghost use Rattle.hickory_zone.specs.Indexes.{IsIndexOf};
+ghost use Rattle.hickory_zone.specs.representation.Indexes.{IsIndexOf};
 ghost use Rattle.hickory_zone.specs.Replies.{IsReplied, RepliesTo, denial_soa, is_class, whole, zone_of};
-ghost use Rattle.hickory_zone.specs.Zones.{AreOwners, IsOwner};
+ghost use Rattle.hickory_zone.specs.representation.FoundRecords.{outcome_of};
+ghost use Rattle.hickory_zone.specs.Zones.{Answers, AreOwners, IsOwner};
 
 use crate::chains::{follow, is_in, one_link};
 use crate::features::Features;
-use crate::find::{cut_above, look_up_by, servers_at};
+use crate::find::{Found, cut_above, look_up_by, servers_at};
 use crate::index::Index;
 use crate::replies::{put_at_once, put_referral_at_once, put_reply};
 use hickory_base::zone_store::{
@@ -41,7 +43,7 @@ fn is_owner(origin: &LowerName, key: &RrKey) -> bool
     name.is_fqdn() && origin.zone_of(&key.name)
 }
 
-/// The same of all keys.
+/// Whether all keys' names may own records of the zone of this origin.
 fn are_all_owners(origin: &LowerName, sets: &BTreeMap<RrKey, Rc<RecordSet>>) -> bool
     ensures { IsTrue result ↔ All (IsOwner origin.now) (keys sets.now) }
 {
@@ -55,7 +57,56 @@ pub fn are_owners(origin: &LowerName, sets: &BTreeMap<RrKey, Rc<RecordSet>>) -> 
     are_all_owners(origin, sets)
 }
 
-/// Makes this what the zone replies where a name in it is asked for, which is the key's in some letter case. No type is below that of the key.
+/// Makes this what the zone of this origin replies where this was found for the name that is asked for, which is the
+/// key's in some letter case: the reply in which the chain ends that begins there. No type is below that of the key.
+#[inline(always)]
+fn put_chain<'z>(
+    alloc: Global,
+    origin: &LowerName,
+    sets: &'z BTreeMap<RrKey, Rc<RecordSet>>,
+    name: &Name,
+    first: &RrKey,
+    record_type: RecordType,
+    has: Features,
+    soa: Option<&'z [Record]>,
+    found: Found<'z>,
+    reply: &mut WholeReply<'z>,
+) -> Result<(), AllocError>
+    requires least { first.now.record_type ≡ 0 }
+    requires owners { AreOwners origin.now (sets_of sets.now) }
+    requires features { AreFeatures (record { origin = origin.now; sets = sets_of sets.now }) has }
+    requires soa { IfSome (option_copied soa)
+        (λ rs. rs ≡ denial_soa (record { origin = origin.now; sets = sets_of sets.now })) }
+    requires spelled { first.now.name ≡ lower_name name.now }
+    requires within { IsIn (record { origin = origin.now; sets = sets_of sets.now }) first.now.name }
+    requires found { Answers (record { origin = origin.now; sets = sets_of sets.now }) first.now.name record_type
+        (outcome_of (sets_of sets.now) first.now.name found) }
+    ensures { OnOk result (IsReplied (record { origin = origin.now; sets = sets_of sets.now }) name.now record_type
+        reply.new) }
+{
+    if let Some(link) = one_link(found) {
+        let answers = RecordList::lent(link.answers);
+        return put_reply(alloc, origin, sets, has, soa, answers, link.end, reply);
+    }
+    let mut answers = Vec::new(alloc);
+    let end = follow(
+        alloc,
+        origin,
+        sets,
+        name,
+        first,
+        record_type,
+        MAX_ALIASES,
+        has,
+        found,
+        &mut answers,
+    )?;
+    let answers = RecordList::owned(Items::from_vec(answers));
+    put_reply(alloc, origin, sets, has, soa, answers, end, reply)
+}
+
+/// Makes this what the zone replies where a name in it is asked for, which is the key's in some letter case. No type is
+/// below that of the key.
 #[inline(always)]
 fn put_within<'z>(
     alloc: Global,
@@ -91,25 +142,18 @@ fn put_within<'z>(
     if put_at_once(&found, soa, reply) {
         return Ok(());
     }
-    if let Some(link) = one_link(found) {
-        let answers = RecordList::lent(link.answers);
-        return put_reply(alloc, origin, sets, has, soa, answers, link.end, reply);
-    }
-    let mut answers = Vec::new(alloc);
-    let end = follow(
+    put_chain(
         alloc,
         origin,
         sets,
         name,
         first,
         record_type,
-        MAX_ALIASES,
         has,
+        soa,
         found,
-        &mut answers,
-    )?;
-    let answers = RecordList::owned(Items::from_vec(answers));
-    put_reply(alloc, origin, sets, has, soa, answers, end, reply)
+        reply,
+    )
 }
 
 /// Whether the class is IN or any.
@@ -121,7 +165,7 @@ pub(crate) fn is_class(class: DNSClass) -> bool
 
 /// The reply to a question that is not of the zone.
 pub(crate) fn refused<'z>() -> WholeReply<'z>
-    ensures { result ≡ whole 5 false [] [] [] }
+    ensures { result ≡ whole code_refused false [] [] [] }
 {
     WholeReply {
         response_code: ResponseCode::REFUSED,
@@ -132,8 +176,8 @@ pub(crate) fn refused<'z>() -> WholeReply<'z>
     }
 }
 
-/// Makes this what the zone replies to a question: records where they lie, but for those that are synthesized, followed or put together. `soa` is its SOA record as
-/// it stands in denials, and `index` its index, if those were made before.
+/// Makes this what the zone replies to a question: records where they lie, but for those that are synthesized, followed
+/// or put together. `soa` is its SOA record as it stands in denials, and `index` its index, if those were made before.
 #[inline(always)]
 pub(crate) fn answer<'z>(
     alloc: Global,
@@ -167,8 +211,8 @@ pub(crate) fn answer<'z>(
     )
 }
 
-/// What the zone replies to a question: records where they lie, but for those that are synthesized, followed or put together. `soa` is its SOA record as it
-/// stands in denials, if that was made before.
+/// What the zone replies to a question: records where they lie, but for those that are synthesized, followed or put
+/// together. `soa` is its SOA record as it stands in denials, if that was made before.
 pub fn reply<'z>(
     alloc: Global,
     zone: &'z InMemoryZoneHandler,
@@ -186,7 +230,7 @@ pub fn reply<'z>(
     Ok(reply)
 }
 
-/// The same of a name, a type and the class IN.
+/// What a zone replies to a question for a name and a type in class IN.
 pub fn reply_to<'z>(
     alloc: Global,
     zone: &'z InMemoryZoneHandler,

@@ -1,6 +1,7 @@
 //! A zone that answers standard queries, as a handler of the catalog.
 
 ghost use Rattle.std.specs.Prelude.{◌≡◌, ◌↔◌, ◌⊎◌, Err, None, false, IfOk, IsTrue};
+ghost use Rattle.wire_messages.specs.Numbers.{code_refused};
 ghost use Rattle.hickory_base.specs.declared.errors.LookupError.TheVariants.{Memory};
 ghost use Rattle.hickory_base.specs.declared.errors.UpdateFault.TheVariants.{Code};
 ghost use Rattle.hickory_base.specs.declared.zone_store.lookup.LookupControlFlow.TheVariants.{Skip};
@@ -41,14 +42,15 @@ impl Model for AuthoritativeZone {
 
     ghost Value = { MemoryZone };
 
-    ghost use Rattle.hickory_zone.specs.Features.{AreFeatures};
-    ghost use Rattle.hickory_zone.specs.Indexes.{IsIndexOf};
+    ghost use Rattle.hickory_zone.specs.representation.Features.{AreFeatures};
+    ghost use Rattle.hickory_zone.specs.representation.Indexes.{IsIndexOf};
     ghost use Rattle.hickory_zone.specs.Replies.{denial_soa, zone_of};
     ghost use Rattle.hickory_zone.specs.Zones.{AreOwners};
 
     ghost view = { λ z. z.zone };
 
-    ghost invariant = { λ z. AreOwners z.zone.origin z.zone.sets × AreFeatures (zone_of z.zone) z.has × (z.soa.items ≡ denial_soa (zone_of z.zone)) × IsIndexOf z.zone.origin z.zone.sets z.index };
+    ghost invariant = { λ z. AreOwners z.zone.origin z.zone.sets × AreFeatures (zone_of z.zone) z.has ×
+        (z.soa.items ≡ denial_soa (zone_of z.zone)) × IsIndexOf z.zone.origin z.zone.sets z.index };
 }
 
 impl AuthoritativeZone {
@@ -59,7 +61,12 @@ impl AuthoritativeZone {
         are_owners(zone.origin(), zone.records())
     }
 
-    /// The zone of these records, which `accepts` takes.
+    /// The zone of these records, which `accepts` takes: a walk over its sets for what it has and where, and a sorted
+    /// list of them with the topmost cuts and their addresses. Time and memory grow with the number of its sets.
+    ///
+    /// # Errors
+    ///
+    /// Memory was refused, and the zone is gone.
     pub fn new(alloc: Global, zone: InMemoryZoneHandler) -> Result<AuthoritativeZone, AllocError>
         requires { AreOwners zone.origin zone.sets }
         ensures { IfOk result (λ own. own ≡ zone) }
@@ -82,7 +89,12 @@ impl AuthoritativeZone {
         self.zone
     }
 
-    /// What the zone replies to a question, whole.
+    /// What the zone replies to a question, whole. Records that stand in the zone are lent, and one search among its
+    /// sets tells most names apart; names that are synthesized, chains and additionals take a search for each.
+    ///
+    /// # Errors
+    ///
+    /// Memory was refused.
     pub fn reply(&self, alloc: Global, query: &LowerQuery) -> Result<WholeReply<'_>, AllocError>
         ensures { IfOk result (RepliesTo (zone_of self.now) query.now) }
     {
@@ -93,8 +105,8 @@ impl AuthoritativeZone {
         Ok(reply)
     }
 
-    /// Puts what the zone replies to a question in the place of another reply. Returns whether there was memory for it; where there was not, nothing is promised of
-    /// the reply.
+    /// Puts what the zone replies to a question in the place of another reply. Returns whether there was memory for it;
+    /// where there was not, nothing is promised of the reply.
     // speed: served, an address
     #[inline(always)]
     pub(crate) fn put_whole<'z>(
@@ -110,7 +122,7 @@ impl AuthoritativeZone {
         answer(alloc, &self.zone, query, self.has, soa, index, reply).is_ok()
     }
 
-    /// The same as a handler gives it.
+    /// The whole reply as a handler gives it.
     pub(crate) fn whole(
         &self,
         alloc: Global,
@@ -145,7 +157,8 @@ impl ZoneHandler for AuthoritativeZone {
 
     ghost nsec3_gives = { λ _ _ _ answer. answer ≡ Skip };
 
-    ghost update_gives = { λ zone _ _ answer context new. (answer ≡ Err (Code 5)) × (context ≡ None) × (new ≡ zone) };
+    ghost update_gives = { λ zone _ _ answer context new.
+        (answer ≡ Err (Code code_refused)) × (context ≡ None) × (new ≡ zone) };
 
     fn zone_type(&self) -> ZoneType {
         self.zone.zone_type()

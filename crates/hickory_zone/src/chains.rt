@@ -1,16 +1,16 @@
 //! CNAMEs that are followed, those too that a DNAME makes.
 
-ghost use Rattle.std.specs.Prelude.{◌≡◌, ◌↔◌, ◌++◌, ◌&&◌, ℕ, [], IsTrue, OnOk, IfOk, IfSome, MatchOption, true, cond};
+ghost use Rattle.std.specs.Prelude.{◌≡◌, ◌↔◌, ◌++◌, ◌&&◌, ◌⊎◌, ℕ, [], IsTrue, OnOk, IfOk, IfSome, MatchOption, false, true, cond};
 ghost use Rattle.wire_names.specs.rr.domain.DomainName.{DomainName};
 ghost use Rattle.hickory_base.specs.zone_store.ZoneAnswers.{records_at};
 ghost use Rattle.hickory_base.specs.zone_store.ZoneRecords.{is_at};
 ghost use Rattle.hickory_base.specs.zone_store.ZoneSets.{sets_of};
 ghost use Rattle.wire_names.specs.rr.domain.NameOrder.{Encloses, lower_name};
 ghost use Rattle.hickory_zone.specs.Zones.{Answers, AreOwners, Sets, Zone};
-ghost use Rattle.hickory_zone.specs.FoundRecords.{outcome_of};
+ghost use Rattle.hickory_zone.specs.representation.FoundRecords.{outcome_of};
 ghost use Rattle.hickory_zone.specs.Chains.{IsIn, canonical, ends, is_cname, is_dname, not_yet, owned_by, owns_cname, step, without_dname};
-ghost use Rattle.hickory_zone.specs.Features.{AreFeatures};
-ghost use Rattle.hickory_zone.specs.ChainEnds.{Chased, IsAllPut, Linked, ending_of};
+ghost use Rattle.hickory_zone.specs.representation.Features.{AreFeatures};
+ghost use Rattle.hickory_zone.specs.representation.ChainEnds.{Chased, IsAllPut, Linked, ending_of};
 ghost use Rattle.hickory_zone.specs.declared.chains.ChainEnd.TheVariants.{Answer, NoData};
 ghost use Rattle.hickory_zone.specs.declared.chains.Link.TheVariants.{End};
 
@@ -46,7 +46,8 @@ fn owned_copy(q: &Record, owner: &Name) -> Result<Record, AllocError>
     })
 }
 
-/// Puts copies of the records last, owned by another name. Where memory is refused, those of a front of them may have been put.
+/// Puts copies of the records last, owned by another name. Where memory is refused, those of a front of them may have
+/// been put.
 pub(crate) fn append_owned(
     all: &mut Vec<Record>,
     owner: &Name,
@@ -72,8 +73,8 @@ fn append_without_dname(all: &mut Vec<Record>, records: &[Record]) -> Result<(),
     Ok(())
 }
 
-/// Puts copies of the records of a name last, of its DNAME only where it does not stand there already (RFC 2181 section 5). Where
-/// memory is refused, those of a front of them may have been put.
+/// Puts copies of the records of a name last, of its DNAME only where it does not stand there already (RFC 2181 section
+/// 5). Where memory is refused, those of a front of them may have been put.
 fn append_once(all: &mut Vec<Record>, name: &Name, records: &[Record]) -> Result<(), AllocError>
     ensures { OnOk result (all.new.items ≡ all.old.items ++ not_yet all.old.items name.now records.now) }
 {
@@ -97,7 +98,8 @@ pub enum ChainEnd<'z> {
     NoName,
     /// At a name that a DNAME makes too long.
     NameTooLong,
-    /// Outside of the zone, at a name that the chain has been at, where data give no name, or where no more is followed.
+    /// Outside of the zone, at a name that the chain has been at, where data give no name, or where no more is
+    /// followed.
     LeftOpen,
 }
 
@@ -110,8 +112,8 @@ pub(crate) enum Link<'z> {
     Leads(Option<Name>),
 }
 
-/// Puts copies of all records of the key's name last. No type is below that of the key. Where memory is refused, those of a front of
-/// them may have been put.
+/// Puts copies of all records of the key's name last. No type is below that of the key. Where memory is refused, those
+/// of a front of them may have been put.
 pub(crate) fn append_name(
     sets: &BTreeMap<RrKey, Rc<RecordSet>>,
     first: &RrKey,
@@ -148,7 +150,8 @@ fn append_rest<'z>(
     answers: &mut Vec<Record>,
 ) -> Result<Link<'z>, AllocError>
     requires { first.now.record_type ≡ 0 }
-    ensures { let all = records_at first.now.name (sets_of sets.now) in IfOk result (IsAllPut all (without_dname all) answers.old.items answers.new.items) }
+    ensures { let all = records_at first.now.name (sets_of sets.now) in IfOk result
+        (IsAllPut all (without_dname all) answers.old.items answers.new.items) }
 {
     let mut own = Vec::new(alloc);
     append_name(sets, first, &mut own)?;
@@ -156,8 +159,8 @@ fn append_rest<'z>(
     Ok(end_at_all(!own.is_empty()))
 }
 
-/// Puts copies of all records of the key's name last, of its DNAME only where it does not stand there already. No type is below that of
-/// the key.
+/// Puts copies of all records of the key's name last, of its DNAME only where it does not stand there already. No type
+/// is below that of the key.
 fn append_all<'z>(
     alloc: Global,
     sets: &BTreeMap<RrKey, Rc<RecordSet>>,
@@ -166,7 +169,8 @@ fn append_all<'z>(
     answers: &mut Vec<Record>,
 ) -> Result<Link<'z>, AllocError>
     requires { first.now.record_type ≡ 0 }
-    ensures { let all = records_at first.now.name (sets_of sets.now) in IfOk result (IsAllPut all (not_yet answers.old.items name.now all) answers.old.items answers.new.items) }
+    ensures { let all = records_at first.now.name (sets_of sets.now) in IfOk result
+        (IsAllPut all (not_yet answers.old.items name.now all) answers.old.items answers.new.items) }
 {
     if owns_dname(name, answers.as_slice()) {
         return append_rest(alloc, sets, first, answers);
@@ -176,8 +180,8 @@ fn append_all<'z>(
     Ok(end_at_all(before < answers.len()))
 }
 
-/// Puts copies of all records of the key's name last, owned by another name. Where memory is refused, those of a front of them may
-/// have been put.
+/// Puts copies of all records of the key's name last, owned by another name. Where memory is refused, those of a front
+/// of them may have been put.
 pub(crate) fn append_name_owned(
     alloc: Global,
     sets: &BTreeMap<RrKey, Rc<RecordSet>>,
@@ -185,7 +189,8 @@ pub(crate) fn append_name_owned(
     owner: &Name,
     all: &mut Vec<Record>,
 ) -> Result<(), AllocError>
-    ensures { OnOk result (all.new.items ≡ all.old.items ++ owned_by owner.now (records_at key.now.name (sets_of sets.now))) }
+    ensures { OnOk result (all.new.items ≡ all.old.items ++ owned_by owner.now
+        (records_at key.now.name (sets_of sets.now))) }
 {
     let first = RrKey::new(key.name.clone()?, RecordType::new(0));
     let mut own = Vec::new(alloc);
@@ -201,7 +206,8 @@ fn append_all_owned<'z>(
     owner: &Name,
     answers: &mut Vec<Record>,
 ) -> Result<Link<'z>, AllocError>
-    ensures { let all = owned_by owner.now (records_at key.now.name (sets_of sets.now)) in IfOk result (IsAllPut all all answers.old.items answers.new.items) }
+    ensures { let all = owned_by owner.now (records_at key.now.name (sets_of sets.now)) in IfOk result
+        (IsAllPut all all answers.old.items answers.new.items) }
 {
     let before = answers.len();
     append_name_owned(alloc, sets, key, owner, answers)?;
@@ -232,7 +238,8 @@ pub(crate) struct OneLink<'z> {
 
 /// What was found for the first name of a chain, where the chain ends there and nothing is synthesized or put together.
 pub(crate) fn one_link<'z>(found: Found<'z>) -> Option<OneLink<'z>>
-    ensures { IfSome result (λ link. (sets : Sets) (low name : DomainName) (t : ℕ) → step t [] name (outcome_of sets low found.entry) ≡ ends link.answers.now (ending_of link.end)) }
+    ensures { IfSome result (λ link. (sets : Sets) (low name : DomainName) (t : ℕ) →
+        step t [] name (outcome_of sets low found.entry) ≡ ends link.answers.now (ending_of link.end)) }
 {
     let (answers, end): (&'z [Record], ChainEnd<'z>) = match found {
         Found::Answer(records) => (records, ChainEnd::Answer),
@@ -256,7 +263,8 @@ fn append_link<'z>(
 ) -> Result<Link<'z>, AllocError>
     requires least { first.now.record_type ≡ 0 }
     requires spelled { first.now.name ≡ lower_name name.now }
-    ensures { IfOk result (λ link. (zone : Zone) → zone.sets ≡ sets_of sets.now → Answers zone first.now.name record_type (outcome_of (sets_of sets.now) first.now.name found.entry)
+    ensures { IfOk result (λ link. (zone : Zone) → zone.sets ≡ sets_of sets.now →
+        Answers zone first.now.name record_type (outcome_of (sets_of sets.now) first.now.name found.entry)
         → Linked zone record_type name.now answers.old.items answers.new.items link) }
 {
     match found {
@@ -301,7 +309,8 @@ fn first_key_within(
 ) -> Result<Option<RrKey>, AllocError>
     ensures { IfOk result (λ found. MatchOption found
         ((sets : Sets) → ¬ (IsIn (record { origin = origin.now; sets = sets }) name.now))
-        (λ key. (key ≡ record { name = lower_name name.now; record_type = 0 }) × (name.now.is_fqdn ≡ true) × Encloses origin.now.labels key.name.labels)) }
+        (λ key. (key ≡ record { name = lower_name name.now; record_type = 0 }) × (name.now.is_fqdn ≡ true) ×
+        Encloses origin.now.labels key.name.labels)) }
 {
     let key = RrKey::new(LowerName::new(alloc, name)?, RecordType::new(0));
     if name.is_fqdn() && origin.zone_of(&key.name) {
@@ -325,8 +334,32 @@ fn owns_cname(name: &LowerName, records: &[Record]) -> bool
     records.iter().any(|q| is_cname_of(name, q))
 }
 
-/// Puts the records of the answer section for a name in the zone last, with at most so many CNAMEs followed. The name is the key's, in
-/// the letter case in which it was asked, and this was found for it. The records of a chain that led here stand there.
+/// The first key, in lower case, of a name that a chain with these records leads on to, if the zone of this origin has
+/// the name and the chain was not at it.
+fn next_key(
+    alloc: Global,
+    origin: &LowerName,
+    target: &Name,
+    chain: &[Record],
+) -> Result<Option<RrKey>, AllocError>
+    ensures { IfOk result (λ found. MatchOption found
+        ((sets : Sets) → ¬ (IsIn (record { origin = origin.now; sets = sets }) target.now) ⊎
+        (owns_cname (lower_name target.now) chain.now ≡ true))
+        (λ key. (key ≡ record { name = lower_name target.now; record_type = 0 }) × (target.now.is_fqdn ≡ true) ×
+        Encloses origin.now.labels key.name.labels × (owns_cname key.name chain.now ≡ false))) }
+{
+    let Some(next) = first_key_within(alloc, origin, target)? else {
+        return Ok(None);
+    };
+    if owns_cname(&next.name, chain) {
+        return Ok(None);
+    }
+    Ok(Some(next))
+}
+
+/// Puts the records of the answer section for a name in the zone last, with at most so many CNAMEs followed. The name
+/// is the key's, in the letter case in which it was asked, and this was found for it. The records of a chain that led
+/// here stand there.
 #[inline(never)]
 pub fn follow<'z>(
     alloc: Global,
@@ -346,8 +379,11 @@ pub fn follow<'z>(
     requires owners { AreOwners origin.now (sets_of sets.now) }
     requires within { Encloses origin.now.labels first.now.name.labels }
     requires features { AreFeatures (record { origin = origin.now; sets = sets_of sets.now }) has }
-    requires found { Answers (record { origin = origin.now; sets = sets_of sets.now }) first.now.name record_type (outcome_of (sets_of sets.now) first.now.name found) }
-    ensures { IfOk result (λ end. Chased (record { origin = origin.now; sets = sets_of sets.now }) record_type left name.now answers.old.items answers.new.items (ending_of end)) }
+    requires found { Answers (record { origin = origin.now; sets = sets_of sets.now }) first.now.name record_type
+        (outcome_of (sets_of sets.now) first.now.name found) }
+    ensures { IfOk result (λ end. Chased (record { origin = origin.now; sets = sets_of sets.now })
+        (record { name = name.now; record_type = record_type; left = left }) answers.old.items answers.new.items
+        (ending_of end)) }
 {
     let to = match append_link(alloc, sets, name, first, record_type, found, answers)? {
         Link::End(end) => return Ok(end),
@@ -359,12 +395,9 @@ pub fn follow<'z>(
     let Some(target) = to else {
         return Ok(ChainEnd::LeftOpen);
     };
-    let Some(next) = first_key_within(alloc, origin, &target)? else {
+    let Some(next) = next_key(alloc, origin, &target, answers.as_slice())? else {
         return Ok(ChainEnd::LeftOpen);
     };
-    if owns_cname(&next.name, answers.as_slice()) {
-        return Ok(ChainEnd::LeftOpen);
-    }
     let found = look_up(alloc, origin, sets, &next, record_type, has)?;
     follow(
         alloc,

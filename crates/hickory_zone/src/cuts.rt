@@ -7,10 +7,10 @@ ghost use Rattle.std.specs.Option.{option_map};
 ghost use Rattle.wire_names.specs.rr.domain.NameOrder.{Encloses};
 ghost use Rattle.wire_messages.specs.rr.RrKeys.{key_cmp};
 ghost use Rattle.hickory_base.specs.zone_store.ZoneSets.{sets_of, shared_sets};
-ghost use Rattle.hickory_zone.specs.Features.{AreFeatures};
-ghost use Rattle.hickory_zone.specs.FoundRecords.{CutAbove};
-ghost use Rattle.hickory_zone.specs.Indexes.{IsSearched};
-ghost use Rattle.hickory_zone.specs.TopCuts.{AreCutsOf, AreGlueOf, IsAt, IsBelowLast, IsPassedOver, IsPut};
+ghost use Rattle.hickory_zone.specs.representation.Features.{AreFeatures};
+ghost use Rattle.hickory_zone.specs.representation.FoundRecords.{CutAbove};
+ghost use Rattle.hickory_zone.specs.representation.Indexes.{IsSearched};
+ghost use Rattle.hickory_zone.specs.representation.TopCuts.{AreCutsOf, AreGlueOf, IsAt, IsBelowLast, IsPassedOver, IsPut};
 ghost use Rattle.hickory_zone.specs.Zones.{AreOwners, Zone};
 
 use crate::additionals::{Source, additionals};
@@ -40,7 +40,8 @@ pub(crate) struct TopCut<'z> {
     pub(crate) servers: &'z [Record],
 }
 
-/// The sets of type NS at the cuts that no other cut is above, in the order of their keys, and beside each the number of its name below the apex.
+/// The sets of type NS at the cuts that no other cut is above, in the order of their keys, and beside each the number
+/// of its name below the apex.
 // speed: served, a referral
 #[derive(Drop)]
 pub(crate) struct Cuts {
@@ -88,14 +89,16 @@ impl Cuts {
         Ok(Cuts { words, entries })
     }
 
-    /// The highest cut above a key's name, which is in the zone of this origin, if it is cut there. No type is below that of the key.
+    /// The highest cut above a key's name, which is in the zone of this origin, if it is cut there. No type is below
+    /// that of the key.
     #[inline(always)]
     pub(crate) fn above(&self, origin: &LowerName, first: &RrKey) -> Option<TopCut<'_>>
         requires searched { IsSearched origin.now self.now.entries.items self.now.words.items }
         requires least { first.now.record_type ≡ 0 }
         requires qualified { first.now.name.is_fqdn ≡ true }
         requires within { Encloses origin.now.labels first.now.name.labels }
-        ensures cut { (zone : Zone) → AreCutsOf zone self.now → CutAbove zone first.now.name (option_map (λ top. top.servers.now) result) }
+        ensures cut { (zone : Zone) → AreCutsOf zone self.now →
+            CutAbove zone first.now.name (option_map (λ top. top.servers.now) result) }
         ensures at { IfSome result (IsAt self.now.entries.items) }
     {
         if self.entries.is_empty() {
@@ -104,14 +107,15 @@ impl Cuts {
         self.last_above(origin, first)
     }
 
-    /// The same, by the last cut before the name: another cannot be above it.
+    /// The topmost cut above a name, by the last cut before the name: another cannot be above it.
     #[inline(never)]
     fn last_above(&self, origin: &LowerName, first: &RrKey) -> Option<TopCut<'_>>
         requires searched { IsSearched origin.now self.now.entries.items self.now.words.items }
         requires least { first.now.record_type ≡ 0 }
         requires qualified { first.now.name.is_fqdn ≡ true }
         requires within { Encloses origin.now.labels first.now.name.labels }
-        ensures cut { (zone : Zone) → AreCutsOf zone self.now → CutAbove zone first.now.name (option_map (λ top. top.servers.now) result) }
+        ensures cut { (zone : Zone) → AreCutsOf zone self.now →
+            CutAbove zone first.now.name (option_map (λ top. top.servers.now) result) }
         ensures at { IfSome result (IsAt self.now.entries.items) }
     {
         // That its labels are in lower case is known of a name that was read.
@@ -142,7 +146,8 @@ impl Cuts {
     ) -> Result<Vec<Vec<Record>>, AllocError>
         requires owners { AreOwners origin.now (sets_of sets.now) }
         requires features { AreFeatures (record { origin = origin.now; sets = sets_of sets.now }) has }
-        ensures { IfOk result (λ glue. AreGlueOf (record { origin = origin.now; sets = sets_of sets.now }) self.now.entries.items glue.items) }
+        ensures { IfOk result (λ glue.
+            AreGlueOf (record { origin = origin.now; sets = sets_of sets.now }) self.now.entries.items glue.items) }
     {
         let mut glue = Vec::new(alloc);
         for (_, servers) in self.entries.as_slice() {

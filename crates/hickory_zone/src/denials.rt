@@ -60,14 +60,15 @@ pub fn denial_soa(alloc: Global, zone: &InMemoryZoneHandler) -> Result<Vec<Recor
     made(alloc, zone.origin(), zone.records())
 }
 
-/// The same as it is given: where it lies, if it was made before, or else made for this.
+/// The SOA record of denials as it is given: where it lies, if it was made before, or else made for this.
 pub(crate) fn soa_of<'z>(
     alloc: Global,
     origin: &LowerName,
     sets: &BTreeMap<RrKey, Rc<RecordSet>>,
     soa: Option<&'z [Record]>,
 ) -> Result<RecordList<'z>, AllocError>
-    requires { IfSome (option_copied soa) (λ rs. rs ≡ denial_soa (record { origin = origin.now; sets = sets_of sets.now })) }
+    requires { IfSome (option_copied soa)
+        (λ rs. rs ≡ denial_soa (record { origin = origin.now; sets = sets_of sets.now })) }
     ensures { IfOk result (λ rs. rs ≡ denial_soa (record { origin = origin.now; sets = sets_of sets.now })) }
 {
     match soa {

@@ -7,7 +7,7 @@ ghost use Rattle.hickory_base.specs.zone_store.ZoneSets.{sets_of};
 ghost use Rattle.wire_names.specs.rr.domain.DomainName.{AreLabels, DomainName, wire_form};
 ghost use Rattle.hickory_zone.specs.Zones.{Exists, IsCut, wildcard};
 ghost use Rattle.std.specs.Prelude.{◌<◌, ◌-◌, ◌+◌, ℕ, length, slice_index};
-ghost use Rattle.hickory_zone.specs.Features.{AreAmong, AreFeatures, AreStarsWithin, Covers, CutsNothing, CutsWithin, Includes, IsNoDname, IsOfLength, IsStarless, IsWildWithin, has_star};
+ghost use Rattle.hickory_zone.specs.representation.Features.{AreAmong, AreFeatures, AreStarsWithin, Covers, CutsNothing, CutsWithin, Includes, IsNoDname, IsOfLength, IsStarless, IsWildWithin, has_star};
 
 use crate::redirections::DNAME;
 use hickory_base::zone_store::RecordSet;
@@ -15,7 +15,8 @@ use hickory_wire::{LowerName, Name, Record, RecordType, RrKey};
 use std::collections::BTreeMap;
 use std::rc::Rc;
 
-/// Lengths of names in wire form, without the byte 0 that ends them: from the least to the most, none where the least is more.
+/// Lengths of names in wire form, without the byte 0 that ends them: from the least to the most, none where the least
+/// is more.
 #[derive(Clone, Copy)]
 pub struct Lengths {
     /// The least.
@@ -31,8 +32,8 @@ pub struct Features {
     pub cuts: Lengths,
     /// DNAME records.
     pub dnames: bool,
-    /// Wildcards, by the lengths of the names that they stand right below. Such a length may be told too where a name has a label of 42
-    /// octets or a `*` in one.
+    /// Wildcards, by the lengths of the names that they stand right below. Such a length may be told too where a name
+    /// has a label of 42 octets or a `*` in one.
     pub wildcards: Lengths,
 }
 
@@ -155,7 +156,7 @@ fn cuts_within(origin: &LowerName, lengths: Lengths, key: &RrKey) -> bool
         || has_length(lengths, key.name.as_name().as_wire().len())
 }
 
-/// The same of all keys.
+/// Whether cuts stand at names of such lengths alone.
 fn are_cut_within(
     origin: &LowerName,
     lengths: Lengths,
@@ -168,7 +169,9 @@ fn are_cut_within(
 
 /// The lengths of the names at which the zone is cut.
 fn cut_lengths(origin: &LowerName, sets: &BTreeMap<RrKey, Rc<RecordSet>>) -> Lengths
-    ensures { (name : DomainName) → AreLabels name.labels → IsCut (record { origin = origin.now; sets = sets_of sets.now }) name → IsOfLength result (length (wire_form name.labels)) }
+    ensures { (name : DomainName) → AreLabels name.labels →
+        IsCut (record { origin = origin.now; sets = sets_of sets.now }) name →
+        IsOfLength result (length (wire_form name.labels)) }
 {
     if are_cutting_nothing(origin, sets) {
         return no_lengths();
@@ -226,7 +229,7 @@ fn is_wild_within(lengths: Lengths, key: &RrKey) -> bool
     are_stars_within(lengths, key.name.as_name().as_wire())
 }
 
-/// The same of all keys.
+/// Whether wildcards stand right below names of such lengths alone.
 fn are_wild_within(lengths: Lengths, sets: &BTreeMap<RrKey, Rc<RecordSet>>) -> bool
     ensures { IsTrue result ↔ All (IsWildWithin lengths) (keys sets.now) }
 {
@@ -235,7 +238,8 @@ fn are_wild_within(lengths: Lengths, sets: &BTreeMap<RrKey, Rc<RecordSet>>) -> b
 
 /// The lengths of the names that wildcards stand right below.
 fn wildcard_lengths(sets: &BTreeMap<RrKey, Rc<RecordSet>>) -> Lengths
-    ensures { (encloser : DomainName) → AreLabels encloser.labels → Exists (sets_of sets.now) (wildcard encloser) → IsOfLength result (length (wire_form encloser.labels)) }
+    ensures { (encloser : DomainName) → AreLabels encloser.labels → Exists (sets_of sets.now) (wildcard encloser) →
+        IsOfLength result (length (wire_form encloser.labels)) }
 {
     if are_starless(sets) {
         return no_lengths();
@@ -278,7 +282,8 @@ fn with_record(has: Features, added: &Record) -> Features
     }
 }
 
-/// What a zone that has these has with records more, whatever goes: so nothing of the zone is looked at. It takes time by the records.
+/// What a zone that has these has with records more, whatever goes: so nothing of the zone is looked at. It takes time
+/// by the records.
 pub fn with_records(has: Features, added: &[Record]) -> Features
     ensures includes { Includes has result }
     ensures covers { All (Covers result) added.now }

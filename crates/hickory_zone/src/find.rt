@@ -5,19 +5,20 @@ ghost use Rattle.std.specs.Bool.{OnTrue};
 ghost use Rattle.std.specs.Option.{option_copied};
 ghost use Rattle.hickory_base.specs.zone_store.ZoneAnswers.{records_at};
 ghost use Rattle.hickory_base.specs.zone_store.ZoneSets.{has_name, sets_of, shared_sets};
-ghost use Rattle.hickory_zone.specs.Zones.{AreOwners, Answers, AnswersDirectly, Exists, Sets, answer, any_of, ancestor, at_node, by_wildcard, Zone, of_sets, rrset, type_a, type_aaaa, type_any, type_cname, type_ds, type_ns, wildcard};
+ghost use Rattle.hickory_zone.specs.Zones.{AreOwners, Answers, AnswersDirectly, Exists, Sets, answer, any_of, ancestor, at_node, by_wildcard, Zone, of_sets, rrset, wildcard};
 ghost use Rattle.std.specs.Prelude.{IfSome, IsSome, drop, length};
 ghost use Rattle.wire_names.specs.rr.domain.DomainName.{AreLabels, IsWire, wire_form};
-ghost use Rattle.hickory_zone.specs.Features.{AreFeatures, IsOfLength};
-ghost use Rattle.hickory_zone.specs.FoundRecords.{first_or};
-ghost use Rattle.hickory_zone.specs.Indexes.{IsIndexOf};
+ghost use Rattle.hickory_zone.specs.representation.Features.{AreFeatures, IsOfLength};
+ghost use Rattle.hickory_zone.specs.representation.FoundRecords.{first_or};
+ghost use Rattle.hickory_zone.specs.representation.Indexes.{IsIndexOf};
 ghost use Rattle.std.specs.List.{Contains};
-ghost use Rattle.hickory_zone.specs.KeysBeside.{AreSetsAmong, Entry, SharedMap, StandsBehind};
+ghost use Rattle.hickory_zone.specs.representation.KeysBeside.{AreSetsAmong, Entry, SharedMap, StandsBehind};
 ghost use Rattle.std.specs.Option.{unwrap_or};
 ghost use Rattle.wire_names.specs.rr.domain.DomainName.{DomainName};
-ghost use Rattle.hickory_zone.specs.FoundRecords.{CutAbove, CutAt, WildFound, may_be_cut, name_of, outcome_of, IsAbove, IsBare, IsEncloser, IsWildAmong, Tells, missing_outcome, wild_or_referral};
-ghost use Rattle.hickory_zone.specs.TopCuts.{HasGlue, servers_at};
+ghost use Rattle.hickory_zone.specs.representation.FoundRecords.{CutAbove, CutAt, WildFound, may_be_cut, name_of, outcome_of, IsAbove, IsBare, IsEncloser, IsWildAmong, Tells, missing_outcome, wild_or_referral};
+ghost use Rattle.hickory_zone.specs.representation.TopCuts.{HasGlue, servers_at};
 ghost use Rattle.wire_names.specs.rr.domain.NameOrder.{Encloses};
+ghost use Rattle.wire_messages.specs.Numbers.{type_a, type_aaaa, type_any, type_cname, type_ds, type_ns};
 
 use crate::cuts::Cut;
 use crate::features::{Features, has_length};
@@ -106,7 +107,7 @@ fn node_at<'z>(
     }
 }
 
-/// The same by the index of a zone, in which the name is.
+/// The sets of a name by the index of a zone, in which the name is.
 // speed: served, an address
 #[inline(always)]
 fn node_in<'z>(index: &'z Index, first: &RrKey, record_type: RecordType) -> Node<'z>
@@ -115,7 +116,8 @@ fn node_in<'z>(index: &'z Index, first: &RrKey, record_type: RecordType) -> Node
     ensures wanted { option_copied result.wanted ≡ rrset (shared_sets index.now.entries) first.now.name record_type }
     ensures alias { option_copied result.alias ≡ rrset (shared_sets index.now.entries) first.now.name type_cname }
     ensures servers { option_copied result.servers ≡ rrset (shared_sets index.now.entries) first.now.name type_ns }
-    ensures behind { (sets : SharedMap) → sets_of sets ≡ shared_sets index.now.entries → StandsBehind sets first.now (option_copied result.behind) }
+    ensures behind { (sets : SharedMap) → sets_of sets ≡ shared_sets index.now.entries →
+        StandsBehind sets first.now (option_copied result.behind) }
     ensures before { (e : Entry) → Contains result.before.now e → Contains index.now.entries e }
 {
     let mut wanted = None;
@@ -215,7 +217,8 @@ fn beside<'z>(
     requires least { first.now.record_type ≡ 0 }
     requires qualified { first.now.name.is_fqdn ≡ true }
     requires behind { StandsBehind sets.now first.now (option_copied behind) }
-    ensures { (origin : DomainName) → AreOwners origin (sets_of sets.now) → Tells (sets_of sets.now) first.now.name result }
+    ensures { (origin : DomainName) → AreOwners origin (sets_of sets.now) →
+        Tells (sets_of sets.now) first.now.name result }
 {
     let before = match sets.range(..first).next_back() {
         Some((key, _)) => Some(key),
@@ -238,8 +241,10 @@ fn is_above(name: &LowerName, key: Option<&RrKey>) -> bool
 /// Takes labels off the name's front until it exists, as the keys beside it tell. Returns whether it does in the end.
 fn keep_closest_encloser(beside: Neighbours<'_>, name: &mut LowerName) -> bool
     requires { name.old.is_fqdn ≡ true }
-    ensures found { (sets : Sets) → Tells sets name.old beside.entry → OnTrue result (IsEncloser sets name.old name.new) }
-    ensures none { (sets : Sets) → Tells sets name.old beside.entry → result ≡ false → (k : ℕ) → ¬ (Exists sets (ancestor name.old k)) }
+    ensures found { (sets : Sets) → Tells sets name.old beside.entry →
+        OnTrue result (IsEncloser sets name.old name.new) }
+    ensures none { (sets : Sets) → Tells sets name.old beside.entry → result ≡ false → (k : ℕ) →
+        ¬ (Exists sets (ancestor name.old k)) }
 {
     while !is_above(name, beside.before) && !is_above(name, beside.behind) {
         if name.as_name().is_root() {
@@ -250,8 +255,8 @@ fn keep_closest_encloser(beside: Neighbours<'_>, name: &mut LowerName) -> bool
     true
 }
 
-/// The closest encloser of the key's name, which is the name itself where that exists, with the key behind the name known. There is
-/// none where no name above exists.
+/// The closest encloser of the key's name, which is the name itself where that exists, with the key behind the name
+/// known. There is none where no name above exists.
 fn encloser_beside<'z>(
     sets: &'z BTreeMap<RrKey, Rc<RecordSet>>,
     first: &RrKey,
@@ -261,7 +266,8 @@ fn encloser_beside<'z>(
     requires qualified { first.now.name.is_fqdn ≡ true }
     requires behind { StandsBehind sets.now first.now (option_copied behind) }
     ensures { (origin : DomainName) → AreOwners origin (sets_of sets.now) → IfOk result
-        (λ found. MatchOption found ((k : ℕ) → ¬ (Exists (sets_of sets.now) (ancestor first.now.name k))) (IsEncloser (sets_of sets.now) first.now.name)) }
+        (λ found. MatchOption found ((k : ℕ) → ¬ (Exists (sets_of sets.now) (ancestor first.now.name k)))
+        (IsEncloser (sets_of sets.now) first.now.name)) }
 {
     let mut name = first.name.clone()?;
     if keep_closest_encloser(beside(sets, first, behind), &mut name) {
@@ -337,7 +343,9 @@ fn servers_or<'z>(
 ) -> Result<Option<&'z [Record]>, AllocError>
     requires { IsWire wire.now }
     ensures { IfOk result (λ found. option_copied found ≡
-        cond (may_be_cut apex has (length wire.now)) (first_or (rrset (sets_of sets.now) (name_of wire.now) type_ns) (option_copied below.entry)) (option_copied below.entry)) }
+        cond (may_be_cut apex has (length wire.now))
+        (first_or (rrset (sets_of sets.now) (name_of wire.now) type_ns) (option_copied below.entry))
+        (option_copied below.entry)) }
 {
     if may_be_cut(apex, has, wire.len()) {
         Ok(or_before(servers_of(alloc, sets, wire)?, below))
@@ -358,7 +366,8 @@ fn climb_to_cut<'z>(
     requires qualified { name.now.is_fqdn ≡ true }
     requires within { Encloses origin.now.labels name.now.labels }
     requires features { AreFeatures (record { origin = origin.now; sets = sets_of sets.now }) has }
-    ensures { IfOk result (λ found. CutAbove (record { origin = origin.now; sets = sets_of sets.now }) name.now (option_copied found)) }
+    ensures { IfOk result (λ found. CutAbove (record { origin = origin.now; sets = sets_of sets.now }) name.now
+        (option_copied found)) }
 {
     let wire = name.as_name().as_wire();
     let apex = origin.as_name().as_wire().len();
@@ -371,14 +380,15 @@ fn climb_to_cut<'z>(
     Ok(highest)
 }
 
-/// The same by the index of a zone. Only what is two labels or more below the apex can have a cut above it.
+/// The highest cut above a name by the index of a zone. Only what is two labels or more below the apex can have one.
 #[inline(always)]
 fn cut_above_in<'z>(index: &'z Index, origin: &LowerName, first: &RrKey) -> Option<Cut<'z>>
     requires least { first.now.record_type ≡ 0 }
     requires qualified { first.now.name.is_fqdn ≡ true }
     requires within { Encloses origin.now.labels first.now.name.labels }
     requires index { index.now.apex ≡ origin.now }
-    ensures cut { CutAbove (record { origin = origin.now; sets = shared_sets index.now.entries }) first.now.name (servers_at result) }
+    ensures cut { CutAbove (record { origin = origin.now; sets = shared_sets index.now.entries }) first.now.name
+        (servers_at result) }
     ensures glue { IfSome result (HasGlue (record { origin = origin.now; sets = shared_sets index.now.entries })) }
 {
     if parent_len(&first.name) <= origin.as_name().as_wire().len() {
@@ -417,8 +427,10 @@ pub(crate) fn cut_above<'z>(
     requires within { Encloses origin.now.labels first.now.name.labels }
     requires features { AreFeatures (record { origin = origin.now; sets = sets_of sets.now }) has }
     requires index { IfSome (option_copied index) (IsIndexOf origin.now (sets_of sets.now)) }
-    ensures cut { IfOk result (λ found. CutAbove (record { origin = origin.now; sets = sets_of sets.now }) first.now.name (servers_at found)) }
-    ensures glue { IfOk result (λ found. IfSome found (HasGlue (record { origin = origin.now; sets = sets_of sets.now }))) }
+    ensures cut { IfOk result (λ found.
+        CutAbove (record { origin = origin.now; sets = sets_of sets.now }) first.now.name (servers_at found)) }
+    ensures glue { IfOk result (λ found.
+        IfSome found (HasGlue (record { origin = origin.now; sets = sets_of sets.now }))) }
 {
     match index {
         Some(index) => Ok(cut_above_in(index, origin, first)),
@@ -439,7 +451,8 @@ pub(crate) fn servers_at<'z>(cut: Option<Cut<'z>>) -> Option<&'z [Record]>
     }
 }
 
-/// Where the authority of a zone ends above a name or at it, where the servers of the highest cut above it are known, and its own NS records.
+/// Where the authority of a zone ends above a name or at it, where the servers of the highest cut above it are known,
+/// and its own NS records.
 fn cut_at<'z>(
     origin: &LowerName,
     name: &LowerName,
@@ -447,7 +460,8 @@ fn cut_at<'z>(
     servers: Option<&'z [Record]>,
 ) -> Option<Delegation<'z>>
     requires within { Encloses origin.now.labels name.now.labels }
-    ensures { (sets : Sets) → CutAbove (record { origin = origin.now; sets = sets }) name.now (option_copied above.entry) → option_copied servers.entry ≡ rrset sets name.now type_ns
+    ensures { (sets : Sets) → CutAbove (record { origin = origin.now; sets = sets }) name.now
+        (option_copied above.entry) → option_copied servers.entry ≡ rrset sets name.now type_ns
         → CutAt (record { origin = origin.now; sets = sets }) name.now result }
 {
     if let Some(servers) = above {
@@ -495,7 +509,8 @@ pub enum Found<'z> {
 
 /// What is found at a name that owns this.
 fn found_at(node: Node<'_>) -> Found<'_>
-    ensures { (sets : Sets) (name : DomainName) → outcome_of sets name result ≡ of_sets (option_copied node.entry.wanted) (option_copied node.entry.alias) }
+    ensures { (sets : Sets) (name : DomainName) →
+        outcome_of sets name result ≡ of_sets (option_copied node.entry.wanted) (option_copied node.entry.alias) }
 {
     match node.wanted {
         Some(records) => Found::Answer(records),
@@ -508,7 +523,9 @@ fn found_at(node: Node<'_>) -> Found<'_>
 
 /// What is found at a name for which a wildcard stands that owns this.
 fn found_wild(node: Node<'_>) -> Found<'_>
-    ensures { (sets : Sets) (name : DomainName) → outcome_of sets name result ≡ by_wildcard (of_sets (option_copied node.entry.wanted) (option_copied node.entry.alias)) }
+    ensures { (sets : Sets) (name : DomainName) →
+        outcome_of sets name result ≡ by_wildcard
+        (of_sets (option_copied node.entry.wanted) (option_copied node.entry.alias)) }
 {
     match node.wanted {
         Some(records) => Found::WildAnswer(records),
@@ -537,7 +554,8 @@ fn is_of(name: &LowerName, key: &RrKey) -> bool
 fn find_wild_any<'z>(first: &RrKey, behind: Option<&'z RrKey>) -> Found<'z>
     requires { first.now.record_type ≡ 0 }
     ensures { (sets : SharedMap) → StandsBehind sets first.now (option_copied behind.entry)
-        → (name : DomainName) → outcome_of (sets_of sets) name result ≡ by_wildcard (any_of (records_at first.now.name (sets_of sets))) }
+        → (name : DomainName) → outcome_of (sets_of sets) name result ≡ by_wildcard
+        (any_of (records_at first.now.name (sets_of sets))) }
 {
     match behind {
         None => Found::NoData,
@@ -555,8 +573,10 @@ fn find_wild_any<'z>(first: &RrKey, behind: Option<&'z RrKey>) -> Found<'z>
 fn find_at_wildcard<'z>(first: &RrKey, node: Node<'z>, record_type: RecordType) -> Found<'z>
     requires { first.now.record_type ≡ 0 }
     ensures { (sets : SharedMap) → StandsBehind sets first.now (option_copied node.entry.behind)
-        → option_copied node.entry.wanted ≡ rrset (sets_of sets) first.now.name record_type → option_copied node.entry.alias ≡ rrset (sets_of sets) first.now.name type_cname
-        → (name : DomainName) → outcome_of (sets_of sets) name result ≡ by_wildcard (at_node (sets_of sets) first.now.name record_type) }
+        → option_copied node.entry.wanted ≡ rrset (sets_of sets) first.now.name record_type →
+        option_copied node.entry.alias ≡ rrset (sets_of sets) first.now.name type_cname
+        → (name : DomainName) → outcome_of (sets_of sets) name result ≡ by_wildcard
+        (at_node (sets_of sets) first.now.name record_type) }
 {
     if is_any(record_type) {
         find_wild_any(first, node.behind)
@@ -574,7 +594,8 @@ fn stands_above(cut: Delegation<'_>, record_type: RecordType) -> bool
 
 /// What is found at a name of the zone's own that exists and owns this.
 fn found_at_existing(node: Node<'_>, record_type: RecordType) -> Found<'_>
-    ensures { (sets : Sets) (name : DomainName) → option_copied node.entry.wanted ≡ rrset sets name record_type → option_copied node.entry.alias ≡ rrset sets name type_cname
+    ensures { (sets : Sets) (name : DomainName) → option_copied node.entry.wanted ≡ rrset sets name record_type →
+        option_copied node.entry.alias ≡ rrset sets name type_cname
         → outcome_of sets name result ≡ at_node sets name record_type }
 {
     if is_any(record_type) {
@@ -591,7 +612,9 @@ fn find_existing<'z>(
     cut: Option<Delegation<'z>>,
 ) -> Found<'z>
     ensures { (zone : Zone) (name : DomainName) → CutAt zone name cut.entry → Exists zone.sets name
-        → option_copied node.entry.wanted ≡ rrset zone.sets name record_type → option_copied node.entry.alias ≡ rrset zone.sets name type_cname → AnswersDirectly zone name record_type (outcome_of zone.sets name result) }
+        → option_copied node.entry.wanted ≡ rrset zone.sets name record_type →
+        option_copied node.entry.alias ≡ rrset zone.sets name type_cname →
+        AnswersDirectly zone name record_type (outcome_of zone.sets name result) }
 {
     if let Some(cut) = cut {
         if !stands_above(cut, record_type) {
@@ -610,8 +633,10 @@ fn find_wild<'z>(
     has: Features,
 ) -> Result<Option<Found<'z>>, AllocError>
     requires qualified { encloser.now.is_fqdn ≡ true }
-    requires features { AreLabels encloser.now.labels → Exists (sets_of sets.now) (wildcard encloser.now) → IsOfLength has.wildcards (length (wire_form encloser.now.labels)) }
-    ensures { (origin : DomainName) → AreOwners origin (sets_of sets.now) → IfOk result (WildFound (sets_of sets.now) encloser.now record_type) }
+    requires features { AreLabels encloser.now.labels → Exists (sets_of sets.now) (wildcard encloser.now) →
+        IsOfLength has.wildcards (length (wire_form encloser.now.labels)) }
+    ensures { (origin : DomainName) → AreOwners origin (sets_of sets.now) →
+        IfOk result (WildFound (sets_of sets.now) encloser.now record_type) }
 {
     if !has_length(has.wildcards, encloser.as_name().as_wire().len()) {
         return Ok(None);
@@ -635,7 +660,8 @@ fn referral_at_once<'z>(above: Option<&'z [Record]>, has: Features) -> Option<&'
     if has.dnames { None } else { above }
 }
 
-/// What the zone has for a name in it that does not exist, below its closest encloser, where this is found at the wildcard right below that one.
+/// What the zone has for a name in it that does not exist, below its closest encloser, where this is found at the
+/// wildcard right below that one.
 fn found_below<'z>(
     origin: &LowerName,
     sets: &'z BTreeMap<RrKey, Rc<RecordSet>>,
@@ -646,9 +672,12 @@ fn found_below<'z>(
 ) -> Result<Found<'z>, AllocError>
     requires within { Encloses origin.now.labels encloser.now.labels }
     requires features { AreFeatures (record { origin = origin.now; sets = sets_of sets.now }) has }
-    ensures { (name : DomainName) (t : ℕ) → IsEncloser (sets_of sets.now) name encloser.now → ¬ (Exists (sets_of sets.now) name)
-        → CutAbove (record { origin = origin.now; sets = sets_of sets.now }) name (option_copied above.entry) → WildFound (sets_of sets.now) encloser.now t wild.entry
-        → IfOk result (λ found. Answers (record { origin = origin.now; sets = sets_of sets.now }) name t (outcome_of (sets_of sets.now) name found)) }
+    ensures { (name : DomainName) (t : ℕ) → IsEncloser (sets_of sets.now) name encloser.now →
+        ¬ (Exists (sets_of sets.now) name)
+        → CutAbove (record { origin = origin.now; sets = sets_of sets.now }) name (option_copied above.entry) →
+        WildFound (sets_of sets.now) encloser.now t wild.entry
+        → IfOk result (λ found. Answers (record { origin = origin.now; sets = sets_of sets.now }) name t
+        (outcome_of (sets_of sets.now) name found)) }
 {
     if let Some(by) = redirection_from(sets, origin, encloser, has)? {
         return Ok(Found::Redirected(by));
@@ -662,7 +691,8 @@ fn found_below<'z>(
     }
 }
 
-/// Whether a name exists, as a wildcard right below it tells, or a key that is at it or below it. There may be others that tell so.
+/// Whether a name exists, as a wildcard right below it tells, or a key that is at it or below it. There may be others
+/// that tell so.
 fn is_told(name: &LowerName, wild: Option<Found<'_>>, key: Option<&RrKey>) -> bool
     ensures { IsTrue result → IsSome wild.entry ⊎ IsAbove name.now (option_copied key.entry) }
 {
@@ -672,7 +702,8 @@ fn is_told(name: &LowerName, wild: Option<Found<'_>>, key: Option<&RrKey>) -> bo
     }
 }
 
-/// What the zone has for a name in it that does not exist, where its closest encloser is looked for among the keys beside it.
+/// What the zone has for a name in it that does not exist, where its closest encloser is looked for among the keys
+/// beside it.
 #[inline(never)]
 fn look_beside<'z>(
     alloc: Global,
@@ -690,9 +721,11 @@ fn look_beside<'z>(
     requires within { Encloses origin.now.labels first.now.name.labels }
     requires behind { StandsBehind sets.now first.now (option_copied behind) }
     requires missing { ¬ (Exists (sets_of sets.now) first.now.name) }
-    requires above { CutAbove (record { origin = origin.now; sets = sets_of sets.now }) first.now.name (option_copied above) }
+    requires above { CutAbove (record { origin = origin.now; sets = sets_of sets.now }) first.now.name
+        (option_copied above) }
     requires features { AreFeatures (record { origin = origin.now; sets = sets_of sets.now }) has }
-    ensures { IfOk result (λ found. Answers (record { origin = origin.now; sets = sets_of sets.now }) first.now.name record_type (outcome_of (sets_of sets.now) first.now.name found)) }
+    ensures { IfOk result (λ found. Answers (record { origin = origin.now; sets = sets_of sets.now }) first.now.name
+        record_type (outcome_of (sets_of sets.now) first.now.name found)) }
 {
     let Some(encloser) = encloser_beside(sets, first, behind)? else {
         return Ok(Found::NoName);
@@ -713,8 +746,8 @@ fn parent_len(name: &LowerName) -> usize
     wire.len() - 1 - usize::from(wire[0])
 }
 
-/// Whether there is no DNAME, and the name right above this one exists, as a key that is at it or below it tells, without a wildcard right
-/// below it. There may be others of which this is so.
+/// Whether there is no DNAME, and the name right above this one exists, as a key that is at it or below it tells,
+/// without a wildcard right below it. There may be others of which this is so.
 #[inline(always)]
 fn is_bare(name: &LowerName, behind: Option<&RrKey>, has: Features) -> bool
     ensures { IsTrue result → IsBare has name.now (option_copied behind.entry) }
@@ -738,7 +771,8 @@ fn last_of(before: &[SharedSet]) -> &[SharedSet]
     &before[before.len().saturating_sub(MOST_WILD)..]
 }
 
-/// The records of a type of the wildcard right below the name above this one, where they are among the last of these sets.
+/// The records of a type of the wildcard right below the name above this one, where they are among the last of these
+/// sets.
 fn wild_among<'z>(
     name: &LowerName,
     record_type: RecordType,
@@ -754,7 +788,8 @@ fn wild_among<'z>(
     None
 }
 
-/// The same where nothing redirects the name, and records of one type are asked for.
+/// The records of the wildcard that stands for a name, from among these sets, where nothing redirects the name, and
+/// records of one type are asked for.
 #[inline(always)]
 fn wild_at_once<'z>(
     name: &LowerName,
@@ -762,7 +797,8 @@ fn wild_at_once<'z>(
     before: &'z [SharedSet],
     has: Features,
 ) -> Option<&'z [Record]>
-    ensures { IfSome result (λ records. (has.dnames ≡ false) × ¬ (record_type ≡ type_any) × IsWildAmong before.now name.now record_type records.now) }
+    ensures { IfSome result (λ records. (has.dnames ≡ false) × ¬ (record_type ≡ type_any) ×
+        IsWildAmong before.now name.now record_type records.now) }
 {
     if has.dnames || is_any(record_type) {
         return None;
@@ -770,9 +806,11 @@ fn wild_at_once<'z>(
     wild_among(name, record_type, before)
 }
 
-/// What is found where a wildcard that owns these records stands for a name that does not exist, and no DNAME redirects it.
+/// What is found where a wildcard that owns these records stands for a name that does not exist, and no DNAME redirects
+/// it.
 fn found_wild_answer<'z>(above: Option<&'z [Record]>, records: &'z [Record]) -> Found<'z>
-    ensures { (sets : Sets) (name : DomainName) → outcome_of sets name result ≡ wild_or_referral (option_copied above.entry) records.now }
+    ensures { (sets : Sets) (name : DomainName) →
+        outcome_of sets name result ≡ wild_or_referral (option_copied above.entry) records.now }
 {
     match above {
         Some(cut) => Found::Referral(cut),
@@ -782,7 +820,8 @@ fn found_wild_answer<'z>(above: Option<&'z [Record]>, records: &'z [Record]) -> 
 
 /// What is found where no wildcard stands for a name that does not exist, and no DNAME redirects it.
 fn found_missing<'z>(above: Option<&'z [Record]>) -> Found<'z>
-    ensures { (sets : Sets) (name : DomainName) → outcome_of sets name result ≡ missing_outcome (option_copied above.entry) }
+    ensures { (sets : Sets) (name : DomainName) →
+        outcome_of sets name result ≡ missing_outcome (option_copied above.entry) }
 {
     match above {
         Some(cut) => Found::Referral(cut),
@@ -790,8 +829,8 @@ fn found_missing<'z>(above: Option<&'z [Record]>) -> Found<'z>
     }
 }
 
-/// What the zone has for a name in it that does not exist. Mostly a wildcard right below the name above it or the key behind it tells that the name above exists, and
-/// then no other key is looked for.
+/// What the zone has for a name in it that does not exist. Where a wildcard right below the name above it or the key
+/// behind it tells that the name above exists, no other key is looked for.
 #[inline(never)]
 fn look_above_by_name<'z>(
     alloc: Global,
@@ -809,9 +848,11 @@ fn look_above_by_name<'z>(
     requires within { Encloses origin.now.labels first.now.name.labels }
     requires behind { StandsBehind sets.now first.now (option_copied behind) }
     requires missing { ¬ (Exists (sets_of sets.now) first.now.name) }
-    requires above { CutAbove (record { origin = origin.now; sets = sets_of sets.now }) first.now.name (option_copied above) }
+    requires above { CutAbove (record { origin = origin.now; sets = sets_of sets.now }) first.now.name
+        (option_copied above) }
     requires features { AreFeatures (record { origin = origin.now; sets = sets_of sets.now }) has }
-    ensures { IfOk result (λ found. Answers (record { origin = origin.now; sets = sets_of sets.now }) first.now.name record_type (outcome_of (sets_of sets.now) first.now.name found)) }
+    ensures { IfOk result (λ found. Answers (record { origin = origin.now; sets = sets_of sets.now }) first.now.name
+        record_type (outcome_of (sets_of sets.now) first.now.name found)) }
 {
     let mut parent = first.name.clone()?;
     parent.remove_first_label();
@@ -823,7 +864,10 @@ fn look_above_by_name<'z>(
     look_beside(alloc, origin, sets, first, record_type, behind, above, has)
 }
 
-/// The same. Mostly the key behind the name tells that the name above exists, or one before it is of the wildcard that stands for it, and then no name is made.
+/// What a zone answers for a name that it has not, by the names above it. No name is made in a zone without DNAME in
+/// two cases: the key behind the name tells that the name above exists, and right below one as long as that there is no
+/// wildcard; or records of one type are asked for, and among the last sets before the name are those of that type of
+/// the wildcard right below the name above.
 #[inline(always)]
 fn look_above<'z>(
     alloc: Global,
@@ -843,9 +887,11 @@ fn look_above<'z>(
     requires behind { StandsBehind sets.now first.now (option_copied behind) }
     requires before { AreSetsAmong before.now (sets_of sets.now) }
     requires missing { ¬ (Exists (sets_of sets.now) first.now.name) }
-    requires above { CutAbove (record { origin = origin.now; sets = sets_of sets.now }) first.now.name (option_copied above) }
+    requires above { CutAbove (record { origin = origin.now; sets = sets_of sets.now }) first.now.name
+        (option_copied above) }
     requires features { AreFeatures (record { origin = origin.now; sets = sets_of sets.now }) has }
-    ensures { IfOk result (λ found. Answers (record { origin = origin.now; sets = sets_of sets.now }) first.now.name record_type (outcome_of (sets_of sets.now) first.now.name found)) }
+    ensures { IfOk result (λ found. Answers (record { origin = origin.now; sets = sets_of sets.now }) first.now.name
+        record_type (outcome_of (sets_of sets.now) first.now.name found)) }
 {
     // speed: served, a name that is not there
     if is_bare(&first.name, behind, has) {
@@ -875,7 +921,8 @@ fn look_at<'z>(
     requires servers { option_copied node.servers ≡ rrset (sets_of sets.now) name.now type_ns }
     requires above { CutAbove (record { origin = origin.now; sets = sets_of sets.now }) name.now (option_copied above) }
     requires features { AreFeatures (record { origin = origin.now; sets = sets_of sets.now }) has }
-    ensures { IfOk result (λ found. Answers (record { origin = origin.now; sets = sets_of sets.now }) name.now record_type (outcome_of (sets_of sets.now) name.now found)) }
+    ensures { IfOk result (λ found. Answers (record { origin = origin.now; sets = sets_of sets.now }) name.now
+        record_type (outcome_of (sets_of sets.now) name.now found)) }
 {
     if let Some(by) = redirection_of(sets, origin, name, has)? {
         return Ok(Found::Redirected(by));
@@ -893,7 +940,8 @@ fn plain_answer<'z>(
     has: Features,
 ) -> Option<&'z [Record]>
     ensures { (zone : Zone) (name : DomainName) → AreFeatures zone has → CutAbove zone name (option_copied above.entry)
-        → option_copied node.now.wanted ≡ rrset zone.sets name record_type → option_copied node.now.servers ≡ rrset zone.sets name type_ns
+        → option_copied node.now.wanted ≡ rrset zone.sets name record_type →
+        option_copied node.now.servers ≡ rrset zone.sets name type_ns
         → IfSome result (λ records. Answers zone name record_type (answer records.now)) }
 {
     if has.dnames || above.is_some() || node.servers.is_some() || is_any(record_type) {
@@ -902,7 +950,8 @@ fn plain_answer<'z>(
     node.wanted
 }
 
-/// What the zone of this origin has for a name in it and a type (RFC 1034 section 4.3.2). No type is below that of the key.
+/// What the zone of this origin has for a name in it and a type (RFC 1034 section 4.3.2). No type is below that of the
+/// key.
 pub fn look_up<'z>(
     alloc: Global,
     origin: &LowerName,
@@ -916,13 +965,15 @@ pub fn look_up<'z>(
     requires owners { AreOwners origin.now (sets_of sets.now) }
     requires within { Encloses origin.now.labels first.now.name.labels }
     requires features { AreFeatures (record { origin = origin.now; sets = sets_of sets.now }) has }
-    ensures { IfOk result (λ found. Answers (record { origin = origin.now; sets = sets_of sets.now }) first.now.name record_type (outcome_of (sets_of sets.now) first.now.name found)) }
+    ensures { IfOk result (λ found. Answers (record { origin = origin.now; sets = sets_of sets.now }) first.now.name
+        record_type (outcome_of (sets_of sets.now) first.now.name found)) }
 {
     let above = servers_at(cut_above(alloc, sets, origin, first, has, None)?);
     look_up_by(alloc, origin, sets, first, record_type, above, has, None)
 }
 
-/// The same by the zone's index, if it has one, where the servers of the highest cut above the name are known.
+/// What a zone answers for a name and a type, by the zone's index, if it has one, where the servers of the highest cut
+/// above the name are known.
 #[inline(always)]
 pub(crate) fn look_up_by<'z>(
     alloc: Global,
@@ -939,9 +990,11 @@ pub(crate) fn look_up_by<'z>(
     requires owners { AreOwners origin.now (sets_of sets.now) }
     requires within { Encloses origin.now.labels first.now.name.labels }
     requires features { AreFeatures (record { origin = origin.now; sets = sets_of sets.now }) has }
-    requires above { CutAbove (record { origin = origin.now; sets = sets_of sets.now }) first.now.name (option_copied above) }
+    requires above { CutAbove (record { origin = origin.now; sets = sets_of sets.now }) first.now.name
+        (option_copied above) }
     requires index { IfSome (option_copied index) (IsIndexOf origin.now (sets_of sets.now)) }
-    ensures { IfOk result (λ found. Answers (record { origin = origin.now; sets = sets_of sets.now }) first.now.name record_type (outcome_of (sets_of sets.now) first.now.name found)) }
+    ensures { IfOk result (λ found. Answers (record { origin = origin.now; sets = sets_of sets.now }) first.now.name
+        record_type (outcome_of (sets_of sets.now) first.now.name found)) }
 {
     if let Some(servers) = referral_at_once(above, has) {
         return Ok(Found::Referral(servers));

@@ -4,7 +4,7 @@ ghost use Rattle.std.specs.Prelude.{◌≡◌, ◌⊎◌, Err, IfSome, None};
 ghost use Rattle.std.specs.Option.{option_copied};
 ghost use Rattle.hickory_base.specs.declared.errors.LookupError.TheVariants.{Memory};
 ghost use Rattle.hickory_base.specs.declared.zone_store.lookup.LookupControlFlow.TheVariants.{Break};
-ghost use Rattle.hickory_zone.specs.Features.{AreFeatures};
+ghost use Rattle.hickory_zone.specs.representation.Features.{AreFeatures};
 ghost use Rattle.hickory_zone.specs.Handled.{IsGiven, IsLookedUp, StandsFor, TransferAnswered, held_serial, is_by_soa, is_no_older, is_soa, names_zone, records_of};
 ghost use Rattle.hickory_zone.specs.Replies.{denial_soa, zone_of};
 ghost use Rattle.hickory_zone.specs.Zones.{AreOwners, Zone};
@@ -139,8 +139,8 @@ fn is_no_older(held: Option<u32>, own: u32) -> bool
     }
 }
 
-/// Whether a transfer of the zone that is asked for so is answered by its SOA record alone: a query for what changed (IXFR) over UDP, or of a client whose
-/// version is no older than the zone's (RFC 1995 section 2).
+/// Whether a transfer of the zone that is asked for so is answered by its SOA record alone: a query for what changed
+/// (IXFR) over UDP, or of a client whose version is no older than the zone's (RFC 1995 section 2).
 pub fn is_by_soa(zone: &InMemoryZoneHandler, request: &Request, query: &LowerQuery) -> bool
     ensures { result ≡ is_by_soa zone.now request.now query.now }
 {

@@ -11,11 +11,11 @@ ghost use Rattle.wire_names.specs.rr.domain.DomainName.{DomainName};
 ghost use Rattle.wire_names.specs.rr.domain.NameOrder.{Encloses};
 ghost use Rattle.wire_messages.specs.rr.RrKeys.{key_cmp};
 ghost use Rattle.hickory_base.specs.zone_store.ZoneSets.{AreSetsInOrder, sets_of, shared_sets};
-ghost use Rattle.hickory_zone.specs.Features.{AreFeatures};
-ghost use Rattle.hickory_zone.specs.FoundRecords.{CutAbove};
-ghost use Rattle.hickory_zone.specs.Indexes.{AreWordsOf, IsIndexOf, IsPlaceOf, IsSearched, IsWordOf};
-ghost use Rattle.hickory_zone.specs.KeysBeside.{Entry};
-ghost use Rattle.hickory_zone.specs.TopCuts.{HasGlue, servers_at};
+ghost use Rattle.hickory_zone.specs.representation.Features.{AreFeatures};
+ghost use Rattle.hickory_zone.specs.representation.FoundRecords.{CutAbove};
+ghost use Rattle.hickory_zone.specs.representation.Indexes.{AreWordsOf, IsIndexOf, IsPlaceOf, IsSearched, IsWordOf};
+ghost use Rattle.hickory_zone.specs.representation.KeysBeside.{Entry};
+ghost use Rattle.hickory_zone.specs.representation.TopCuts.{HasGlue, servers_at};
 ghost use Rattle.hickory_zone.specs.Zones.{AreOwners};
 
 use crate::cuts::{Cut, Cuts};
@@ -30,8 +30,8 @@ use std::rc::Rc;
 /// A set and its key.
 pub(crate) type SharedSet = (RrKey, Rc<RecordSet>);
 
-/// The sets of a zone in the order of their keys, and beside each the number of its name below the apex, which stands in this order too;
-/// and its topmost cuts.
+/// The sets of a zone in the order of their keys, and beside each the number of its name below the apex, which stands
+/// in this order too; and its topmost cuts.
 // speed: served, an address
 #[derive(Drop)]
 pub(crate) struct Index {
@@ -45,8 +45,8 @@ pub(crate) struct Index {
 
 impl Model for Index {
     ghost use Rattle.hickory_base.specs.zone_store.ZoneSets.{shared_sets};
-    ghost use Rattle.hickory_zone.specs.Indexes.{IndexedSets, IsSearched};
-    ghost use Rattle.hickory_zone.specs.TopCuts.{AreCutsOf, AreGlueOf};
+    ghost use Rattle.hickory_zone.specs.representation.Indexes.{IndexedSets, IsSearched};
+    ghost use Rattle.hickory_zone.specs.representation.TopCuts.{AreCutsOf, AreGlueOf};
 
     ghost Value = { IndexedSets };
 
@@ -54,7 +54,8 @@ impl Model for Index {
 
     ghost invariant = { λ index. IsSearched index.apex index.entries.items index.words.items
         × AreCutsOf (record { origin = index.apex; sets = shared_sets index.entries.items }) index.cuts
-        × AreGlueOf (record { origin = index.apex; sets = shared_sets index.entries.items }) index.cuts.entries.items index.glue.items };
+        × AreGlueOf (record { origin = index.apex; sets = shared_sets index.entries.items }) index.cuts.entries.items
+        index.glue.items };
 }
 
 /// The sets of an index on both sides of a key.
@@ -83,7 +84,8 @@ pub(crate) fn word_of(apex: &LowerName, key: &RrKey) -> u64
 fn is_before(entries: &[SharedSet], words: &[u64], place: usize, word: u64, first: &RrKey) -> bool
     requires within { place < length entries.now }
     requires words { length words.now ≡ length entries.now }
-    ensures { (apex : DomainName) (e : Entry) → AreWordsOf apex entries.now words.now → IsWordOf apex first.now word → slice_get entries.now place ≡ Some e
+    ensures { (apex : DomainName) (e : Entry) → AreWordsOf apex entries.now words.now → IsWordOf apex first.now word →
+        slice_get entries.now place ≡ Some e
         → result ≡ is_lt (key_cmp e.0 first.now) }
 {
     let other = words[place];
@@ -167,14 +169,17 @@ impl Index {
         }
     }
 
-    /// The highest cut above a key's name, which is at the apex or below it, if the zone is cut there. No type is below that of the key.
+    /// The highest cut above a key's name, which is at the apex or below it, if the zone is cut there. No type is below
+    /// that of the key.
     #[inline(always)]
     pub(crate) fn cut_above(&self, first: &RrKey) -> Option<Cut<'_>>
         requires least { first.now.record_type ≡ 0 }
         requires qualified { first.now.name.is_fqdn ≡ true }
         requires within { Encloses self.now.apex.labels first.now.name.labels }
-        ensures cut { CutAbove (record { origin = self.now.apex; sets = shared_sets self.now.entries }) first.now.name (servers_at result) }
-        ensures glue { IfSome result (HasGlue (record { origin = self.now.apex; sets = shared_sets self.now.entries })) }
+        ensures cut { CutAbove (record { origin = self.now.apex; sets = shared_sets self.now.entries }) first.now.name
+            (servers_at result) }
+        ensures glue { IfSome result (HasGlue
+            (record { origin = self.now.apex; sets = shared_sets self.now.entries })) }
     {
         let Some(top) = self.cuts.above(&self.apex, first) else {
             return None;

@@ -1,9 +1,10 @@
 //! What follows from the definitions alone: each law is what a function ensures that does nothing.
 
 ghost use Rattle.std.specs.Prelude.{◌≡◌, ◌∷◌, []};
+ghost use Rattle.wire_messages.specs.Numbers.{type_a, type_aaaa, type_any, type_cname, type_dname, type_ds, type_mx, type_ns, type_soa};
 ghost use Rattle.hickory_zone.specs.Chains.{OneChain};
 ghost use Rattle.hickory_zone.specs.Replies.{OneReply};
-ghost use Rattle.hickory_zone.specs.Zones.{OneAnswer, type_a, type_aaaa, type_any, type_cname, type_dname, type_ds, type_mx, type_ns, type_soa};
+ghost use Rattle.hickory_zone.specs.Zones.{OneAnswer};
 
 use hickory_wire::RecordType;
 
@@ -24,7 +25,8 @@ pub fn replies_once()
 
 /// The types that the definitions name.
 pub fn named_types() -> [RecordType; 9]
-    ensures { result ≡ type_a ∷ type_ns ∷ type_cname ∷ type_soa ∷ type_mx ∷ type_aaaa ∷ type_dname ∷ type_ds ∷ type_any ∷ [] }
+    ensures { result ≡ type_a ∷ type_ns ∷ type_cname ∷ type_soa ∷ type_mx ∷ type_aaaa ∷ type_dname ∷ type_ds ∷ type_any
+        ∷ [] }
 {
     [
         RecordType::A,

@@ -5,11 +5,11 @@ ghost use Rattle.wire_names.specs.rr.domain.DomainName.{label_offset};
 ghost use Rattle.wire_names.specs.rr.domain.NameOrder.{Encloses};
 ghost use Rattle.hickory_base.specs.zone_store.ZoneRecords.{is_at};
 ghost use Rattle.hickory_base.specs.zone_store.ZoneSets.{sets_of};
-ghost use Rattle.hickory_zone.specs.Features.{AreFeatures};
-ghost use Rattle.hickory_zone.specs.FoundRecords.{RedirectedAt, TopDname, higher};
+ghost use Rattle.hickory_zone.specs.representation.Features.{AreFeatures};
+ghost use Rattle.hickory_zone.specs.representation.FoundRecords.{RedirectedAt, TopDname, higher};
 ghost use Rattle.hickory_zone.specs.Redirections.{cname_for, is_too_long, substitute, target_in, whole_name};
 ghost use Rattle.hickory_zone.specs.Chains.{by_cname, is_dname, once, owns_dname, redirect, redirect_to};
-ghost use Rattle.hickory_zone.specs.ChainEnds.{IsStep};
+ghost use Rattle.hickory_zone.specs.representation.ChainEnds.{IsStep};
 
 use crate::additionals::is_memory;
 use crate::chains::{ChainEnd, Link, append_copies};
@@ -60,8 +60,8 @@ fn front_len(name: &Name, labels: usize) -> usize
     place
 }
 
-/// What redirects names at this name or below it: nothing that was found below where the zone is cut here, else the DNAME records
-/// here, or else what was found below.
+/// What redirects names at this name or below it: nothing that was found below where the zone is cut here, else the
+/// DNAME records here, or else what was found below.
 fn higher<'z>(
     name: &LowerName,
     is_cut: bool,
@@ -110,7 +110,7 @@ fn top_dname<'z>(
     higher(&key.name, false, set_under(sets, &key), highest)
 }
 
-/// The same, of a name that is kept.
+/// The highest DNAME above a name that is kept.
 pub(crate) fn redirection_from<'z>(
     sets: &'z BTreeMap<RrKey, Rc<RecordSet>>,
     origin: &LowerName,
@@ -197,7 +197,8 @@ fn substituted(
     target: &Name,
 ) -> Result<Option<Name>, AllocError>
     requires { kept ≤ length name.now.labels }
-    ensures { IfOk result (λ found. found ≡ cond (is_too_long (substitute name.now kept target.now)) None (Some (substitute name.now kept target.now))) }
+    ensures { IfOk result (λ found. found ≡ cond (is_too_long (substitute name.now kept target.now)) None
+        (Some (substitute name.now kept target.now))) }
 {
     let front = &name.as_wire()[..front_len(name, kept)];
     let end = target.as_wire();
@@ -240,7 +241,8 @@ fn append_dname(
     dname: &[Record],
     answers: &mut Vec<Record>,
 ) -> Result<(), AllocError>
-    ensures { OnOk result (answers.new.items ≡ answers.old.items ++ cond (owns_dname first.now.name answers.old.items) [] dname.now) }
+    ensures { OnOk result (answers.new.items ≡ answers.old.items ++ cond (owns_dname first.now.name answers.old.items)
+        [] dname.now) }
 {
     if owns_dname(&first.name, answers.as_slice()) {
         Ok(())
@@ -270,7 +272,8 @@ fn append_cname<'z>(
     record_type: RecordType,
     answers: &mut Vec<Record>,
 ) -> Result<Link<'z>, AllocError>
-    ensures { IfOk result (IsStep (by_cname record_type [] (cname_for name.now target q.now) target) answers.old.items answers.new.items) }
+    ensures { IfOk result (IsStep (by_cname record_type [] (cname_for name.now target q.now) target) answers.old.items
+        answers.new.items) }
 {
     let next = target.clone()?;
     answers.push(cname_for(name, target, q)?)?;
@@ -291,7 +294,8 @@ fn append_target<'z>(
     answers: &mut Vec<Record>,
 ) -> Result<Link<'z>, AllocError>
     requires { kept ≤ length name.now.labels }
-    ensures { IfOk result (IsStep (redirect_to record_type name.now kept [] q.now (target_in q.now.rdata)) answers.old.items answers.new.items) }
+    ensures { IfOk result (IsStep (redirect_to record_type name.now kept [] q.now (target_in q.now.rdata))
+        answers.old.items answers.new.items) }
 {
     let Some(target) = target_in(alloc, q)? else {
         return Ok(Link::Leads(None));
@@ -310,7 +314,8 @@ pub(crate) fn append_redirection<'z>(
     by: Redirection<'_>,
     answers: &mut Vec<Record>,
 ) -> Result<Link<'z>, AllocError>
-    ensures { IfOk result (IsStep (redirect record_type name.now (length name.now.labels - by.entry.labels) (once answers.old.items by.entry.dname.now) by.entry.dname.now) answers.old.items answers.new.items) }
+    ensures { IfOk result (IsStep (redirect record_type name.now (length name.now.labels - by.entry.labels)
+        (once answers.old.items by.entry.dname.now) by.entry.dname.now) answers.old.items answers.new.items) }
 {
     let Some(q) = by.dname.first() else {
         return Ok(Link::Leads(None));

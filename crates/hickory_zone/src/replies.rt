@@ -2,13 +2,13 @@
 
 ghost use Rattle.std.specs.Prelude.{◌≡◌, ℕ, [], true, IfSome, IsTrue, OnOk, Some};
 ghost use Rattle.wire_names.specs.rr.domain.DomainName.{DomainName};
-ghost use Rattle.hickory_zone.specs.FoundRecords.{outcome_of};
+ghost use Rattle.hickory_zone.specs.representation.FoundRecords.{outcome_of};
 ghost use Rattle.std.specs.Option.{option_copied};
 ghost use Rattle.hickory_base.specs.zone_store.ZoneSets.{sets_of};
-ghost use Rattle.hickory_zone.specs.ChainEnds.{ending_of};
+ghost use Rattle.hickory_zone.specs.representation.ChainEnds.{ending_of};
 ghost use Rattle.hickory_zone.specs.Endings as ended;
-ghost use Rattle.hickory_zone.specs.Features.{AreFeatures};
-ghost use Rattle.hickory_zone.specs.ReplyAtOnce.{IsReferredAtOnce, IsReplyAtOnce};
+ghost use Rattle.hickory_zone.specs.representation.Features.{AreFeatures};
+ghost use Rattle.hickory_zone.specs.representation.ReplyAtOnce.{IsReferredAtOnce, IsReplyAtOnce};
 ghost use Rattle.hickory_zone.specs.Replies.{EndsIn, denial_soa, whole};
 ghost use Rattle.hickory_zone.specs.Zones.{AreOwners, Records, Zone};
 
@@ -68,7 +68,8 @@ fn put_lent_denial<'z>(
     response_code: ResponseCode,
     soa: Option<&'z [Record]>,
 ) -> bool
-    ensures { IsTrue result → (rs : Records) × (option_copied soa.entry ≡ Some rs) × (reply.new ≡ whole response_code true [] rs []) }
+    ensures { IsTrue result → (rs : Records) × (option_copied soa.entry ≡ Some rs) ×
+        (reply.new ≡ whole response_code true [] rs []) }
 {
     match soa {
         Some(soa) => {
@@ -79,14 +80,17 @@ fn put_lent_denial<'z>(
     }
 }
 
-/// Makes this the reply where what was found is records that name no host, or nothing, and the zone's SOA record was made before. Whether it is one.
+/// Makes this the reply where what was found is records that name no host, or nothing, and the zone's SOA record was
+/// made before. Whether it is one.
 #[inline(always)]
 pub(crate) fn put_at_once<'z>(
     found: &Found<'z>,
     soa: Option<&'z [Record]>,
     reply: &mut WholeReply<'z>,
 ) -> bool
-    ensures { IsTrue result → (zone : Zone) (low name : DomainName) (t : ℕ) → IfSome (option_copied soa.entry) (λ rs. rs ≡ denial_soa zone) → IsReplyAtOnce zone t name (outcome_of zone.sets low found.now) reply.new }
+    ensures { IsTrue result → (zone : Zone) (low name : DomainName) (t : ℕ) →
+        IfSome (option_copied soa.entry) (λ rs. rs ≡ denial_soa zone) →
+        IsReplyAtOnce zone t name (outcome_of zone.sets low found.now) reply.new }
 {
     match found {
         Found::Answer(records) => {
@@ -102,7 +106,8 @@ pub(crate) fn put_at_once<'z>(
     }
 }
 
-/// Makes this the referral to the servers of a cut, where nothing can redirect a name below it before, and their addresses were looked up before. Whether it is one.
+/// Makes this the referral to the servers of a cut, where nothing can redirect a name below it before, and their
+/// addresses were looked up before. Whether it is one.
 #[inline(always)]
 pub(crate) fn put_referral_at_once<'z>(
     cut: Option<Cut<'z>>,
@@ -153,7 +158,8 @@ fn put_answer<'z>(
 ) -> Result<(), AllocError>
     requires owners { AreOwners origin.now (sets_of sets.now) }
     requires features { AreFeatures (record { origin = origin.now; sets = sets_of sets.now }) has }
-    ensures { OnOk result (EndsIn (record { origin = origin.now; sets = sets_of sets.now }) answers.entry ended.answer reply.new) }
+    ensures { OnOk result (EndsIn (record { origin = origin.now; sets = sets_of sets.now }) answers.entry ended.answer
+        reply.new) }
 {
     let records = answers.as_slice();
     let added = additionals(alloc, origin, sets, Source::Answer, records, records, has)?;
@@ -181,7 +187,8 @@ fn put_referral<'z>(
 ) -> Result<(), AllocError>
     requires owners { AreOwners origin.now (sets_of sets.now) }
     requires features { AreFeatures (record { origin = origin.now; sets = sets_of sets.now }) has }
-    ensures { OnOk result (EndsIn (record { origin = origin.now; sets = sets_of sets.now }) answers.entry (ended.referral servers.now) reply.new) }
+    ensures { OnOk result (EndsIn (record { origin = origin.now; sets = sets_of sets.now }) answers.entry
+        (ended.referral servers.now) reply.new) }
 {
     let records = answers.as_slice();
     let added = additionals(alloc, origin, sets, Source::Glue, records, servers, has)?;
@@ -224,8 +231,10 @@ pub(crate) fn put_reply<'z>(
 ) -> Result<(), AllocError>
     requires owners { AreOwners origin.now (sets_of sets.now) }
     requires features { AreFeatures (record { origin = origin.now; sets = sets_of sets.now }) has }
-    requires soa { IfSome (option_copied soa) (λ rs. rs ≡ denial_soa (record { origin = origin.now; sets = sets_of sets.now })) }
-    ensures { OnOk result (EndsIn (record { origin = origin.now; sets = sets_of sets.now }) answers.entry (ending_of end.entry) reply.new) }
+    requires soa { IfSome (option_copied soa)
+        (λ rs. rs ≡ denial_soa (record { origin = origin.now; sets = sets_of sets.now })) }
+    ensures { OnOk result (EndsIn (record { origin = origin.now; sets = sets_of sets.now }) answers.entry
+        (ending_of end.entry) reply.new) }
 {
     match end {
         ChainEnd::Answer => put_answer(alloc, origin, sets, has, answers, reply),

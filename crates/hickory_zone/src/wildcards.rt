@@ -27,7 +27,8 @@ pub(crate) fn wildcard_below(
     alloc: Global,
     name: &LowerName,
 ) -> Result<Option<LowerName>, AllocError>
-    ensures { IfOk result (λ below. MatchOption below (255 < name_len (wildcard name.now).labels) (λ source. source ≡ wildcard name.now)) }
+    ensures { IfOk result (λ below. MatchOption below (255 < name_len (wildcard name.now).labels)
+        (λ source. source ≡ wildcard name.now)) }
 {
     let name = name.as_name();
     match wildcard_labels(name.as_wire()) {

@@ -1,6 +1,7 @@
 //! A zone beside the zone above it, where one server has both.
 
 ghost use Rattle.std.specs.Prelude.{◌≡◌, ◌⊎◌, Err, None, Result, Some, false};
+ghost use Rattle.wire_messages.specs.Numbers.{code_refused};
 ghost use Rattle.hickory_base.specs.declared.errors.LookupError.{LookupError};
 ghost use Rattle.hickory_base.specs.declared.zone_store.lookup.AuthLookup.{AuthLookup};
 ghost use Rattle.std.specs.Option.{option_copied};
@@ -26,8 +27,8 @@ use std::rc::Rc;
 /// The type of the records that a zone above has of a zone below (RFC 4034 section 5).
 const DS: u16 = 43;
 
-/// A zone, and the zone above it, if the server has it: that one is asked for the DS records of the zone's apex (RFC 4035 section
-/// 3.1.4.1), and all else of the zone.
+/// A zone, and the zone above it, if the server has it: that one is asked for the DS records of the zone's apex (RFC
+/// 4035 section 3.1.4.1), and all else of the zone.
 #[derive(Drop)]
 pub struct ZoneWithParent {
     /// The zone that answers.
@@ -64,7 +65,8 @@ fn answer_above<'z>(
     LookupControlFlow<AuthLookup<'z>>,
     Option<TSigResponseContext>,
 )
-    ensures answer { (given : Result AuthLookup LookupError) × (result.0 ≡ Continue given) × ((zone : MemoryZone) → IsGiven zone query.now (Some parent.now) given ⊎ (given ≡ Err Memory)) }
+    ensures answer { (given : Result AuthLookup LookupError) × (result.0 ≡ Continue given) ×
+        ((zone : MemoryZone) → IsGiven zone query.now (Some parent.now) given ⊎ (given ≡ Err Memory)) }
     ensures context { result.1 ≡ None }
 {
     (
@@ -108,7 +110,8 @@ impl ZoneHandler for ZoneWithParent {
 
     ghost nsec3_gives = { λ _ _ _ answer. answer ≡ Skip };
 
-    ghost update_gives = { λ both _ _ answer context new. (answer ≡ Err (Code 5)) × (context ≡ None) × (new ≡ both) };
+    ghost update_gives = { λ both _ _ answer context new.
+        (answer ≡ Err (Code code_refused)) × (context ≡ None) × (new ≡ both) };
 
     fn zone_type(&self) -> ZoneType {
         self.zone.zone_type()

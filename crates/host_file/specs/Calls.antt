@@ -17,7 +17,8 @@ call_of Sync = fdatasync
 abbrev pub calls_of : List Operation → List HostCall
 calls_of operations = map call_of operations
 
--- What a file holds after a call. A write of no bytes does nothing; another one puts zeros between the end of the file and its place.
+-- What a file holds after a call. A write of no bytes does nothing; another one puts zeros between the end of the file
+-- and its place.
 abbrev pub after_call : HostCall → List ℕ → List ℕ
 after_call (pwrite at []) file = file
 after_call (pwrite at (byte ∷ bytes)) file = overlaid file at (byte ∷ bytes)

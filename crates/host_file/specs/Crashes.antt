@@ -4,13 +4,15 @@ use Rattle.sqlite_disk.specs.Disk.{Torn, Cut}
 use Rattle.host_file.specs.Calls.{HostCall, after_call}
 use Rattle.host_file.specs.Calls.HostCall.{pwrite, ftruncate, fdatasync}
 
--- while a call is made, where a crash before it could leave `earlier`: a write may be torn, a change of the length may have come to any length between
+-- while a call is made, where a crash before it could leave `earlier`: a write may be torn, a change of the length may
+-- have come to any length between
 abbrev pub Midst : HostCall → (List ℕ → Type 0) → List ℕ → Type 0
 Midst (pwrite at bytes) earlier c = (d : List ℕ) × earlier d × Torn at (length bytes) d c
 Midst (ftruncate len) earlier c = (d : List ℕ) × earlier d × Cut len d c
 Midst fdatasync earlier c = earlier c
 
--- once it was made, of a file that held `file` before it: the same, but that a sync leaves what the file holds, and nothing else
+-- once it was made, of a file that held `file` before it: the same, but that a sync leaves what the file holds, and
+-- nothing else
 abbrev pub Behind : HostCall → List ℕ → (List ℕ → Type 0) → List ℕ → Type 0
 Behind (pwrite at bytes) file earlier c = (d : List ℕ) × earlier d × Torn at (length bytes) d c
 Behind (ftruncate len) file earlier c = (d : List ℕ) × earlier d × Cut len d c

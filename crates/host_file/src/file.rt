@@ -21,8 +21,9 @@ use std::marker::Model;
 
 /// A file whose contents stand in memory, and what its owner is to do to it.
 ///
-/// Its owner has synced the file and read it whole, hands over the bytes, and after each call does the operations, in order, before anything that
-/// the call answered leaves the process; then it says so (`operations_done`). Where one of them fails, nothing leaves, and the process ends.
+/// Its owner has synced the file and read it whole, hands over the bytes, and after each call does the operations, in
+/// order, before anything that the call answered leaves the process; then it says so (`operations_done`). Where one of
+/// them fails, nothing leaves, and the process ends.
 #[derive(Drop)]
 pub struct HostFile {
     /// By which its owner knows it.
@@ -48,9 +49,21 @@ impl Model for HostFile {
 
     ghost Value = { FileState };
 
-    ghost view = { λ f. record { name = f.name; seen = f.bytes.items; noted = calls_of f.operations.items; made = f.made; kept = f.kept; most = f.most; usable = f.usable; faults = f.faults; caught = f.caught } };
+    ghost view = { λ f. record {
+      name = f.name;
+      seen = f.bytes.items;
+      noted = calls_of f.operations.items;
+      made =
+          f.made;
+      kept = f.kept;
+      most = f.most;
+      usable = f.usable;
+      faults = f.faults;
+      caught = f.caught;
+    } };
 
-    ghost invariant = { λ f. (f.kept ≤ length f.bytes.items) × (length f.bytes.items ≤ f.most) × (f.made ≤ length f.operations.items) };
+    ghost invariant = { λ f. (f.kept ≤ length f.bytes.items) × (length f.bytes.items ≤ f.most) ×
+        (f.made ≤ length f.operations.items) };
 }
 
 impl HostFile {
@@ -62,7 +75,7 @@ impl HostFile {
         HostFile::of(alloc, name, bytes)
     }
 
-    /// The same.
+    /// The file of this name with these bytes, of which nothing is owed yet.
     fn of(alloc: Global, name: u64, bytes: Vec<u8>) -> HostFile
         ensures { result ≡ of_bytes name bytes.items }
     {
@@ -174,7 +187,8 @@ fn ends_synced(operations: &[Operation]) -> bool
     }
 }
 
-/// Each method changes the contents and notes the operation by which the file becomes them, or changes nothing where memory is refused.
+/// Each method changes the contents and notes the operation by which the file becomes them, or changes nothing where
+/// memory is refused.
 impl Disk for HostFile {
     ghost seen = { λ f. f.seen };
 
@@ -200,7 +214,7 @@ impl Disk for HostFile {
         false
     }
 
-    // Memory tells no lie, so it needs no secret.
+    /// Memory tells no lie, so it needs no secret.
     fn key(&self) -> u64 {
         0
     }
@@ -229,7 +243,8 @@ impl Disk for HostFile {
         ensures exact { IsRead self.old.seen at buf.old result buf.new }
         ensures same { self.new ≡ self.old }
         ensures read { OnOk result (IsTrue true → 0 < length buf.old → Holds self.old.seen at buf.new) }
-        ensures faults { CountsFaultIf (IsTrue true → at + length buf.old ≤ length self.old.seen) result self.old.faults self.new.faults }
+        ensures faults { CountsFaultIf (IsTrue true → at + length buf.old ≤ length self.old.seen) result self.old.faults
+            self.new.faults }
     {
         read(&self.bytes, at, buf)
     }
@@ -243,8 +258,10 @@ impl Disk for HostFile {
         ensures tested { OnOk result (digest key buf.new ≡ want) }
         ensures detects { IsTrue true → at + length buf.old ≤ length self.old.seen
             → IsTrue true ⊎ Collide key buf.new (take (length buf.old) (drop at self.old.seen)) }
-        ensures faults { CountsFaultIf (IsTrue true × (at + length buf.old ≤ length self.old.seen)) result self.old.faults self.new.faults }
-        ensures tally { CountsCatch result (record { caught = self.old.caught; refused = 0 }) (record { caught = self.new.caught; refused = 0 }) }
+        ensures faults { CountsFaultIf (IsTrue true × (at + length buf.old ≤ length self.old.seen)) result
+            self.old.faults self.new.faults }
+        ensures tally { CountsCatch result (record { caught = self.old.caught; refused = 0 })
+            (record { caught = self.new.caught; refused = 0 }) }
     {
         read(&self.bytes, at, buf)?;
         if digest_of(key, buf) != want {
@@ -260,7 +277,8 @@ impl Disk for HostFile {
         ensures written { OnOk result (0 < length bytes.now → Holds self.new.seen at bytes.now) }
         ensures faults { CountsFault result self.old.faults self.new.faults }
         ensures others { Torn at (length bytes.now) self.old.seen self.new.seen }
-        ensures tally { CountsRefusal result (record { caught = self.old.caught; refused = 0 }) (record { caught = self.new.caught; refused = 0 }) }
+        ensures tally { CountsRefusal result (record { caught = self.old.caught; refused = 0 })
+            (record { caught = self.new.caught; refused = 0 }) }
         ensures usable { IsTrue self.new.usable }
         ensures crash { Follows (Torn at (length bytes.now)) (may_leave self.old) (may_leave self.new) }
     {
@@ -277,7 +295,8 @@ impl Disk for HostFile {
         ensures len { OnOk result (length self.new.seen ≡ len) }
         ensures faults { CountsFault result self.old.faults self.new.faults }
         ensures others { Cut len self.old.seen self.new.seen }
-        ensures tally { CountsRefusal result (record { caught = self.old.caught; refused = 0 }) (record { caught = self.new.caught; refused = 0 }) }
+        ensures tally { CountsRefusal result (record { caught = self.old.caught; refused = 0 })
+            (record { caught = self.new.caught; refused = 0 }) }
         ensures usable { IsTrue self.new.usable }
         ensures crash { Follows (Cut len) (may_leave self.old) (may_leave self.new) }
     {
@@ -291,7 +310,8 @@ impl Disk for HostFile {
         ensures durable { OnOk result (Only self.old.seen (may_leave self.new)) }
         ensures faults { CountsFault result self.old.faults self.new.faults }
         ensures seen { self.new.seen ≡ self.old.seen }
-        ensures tally { CountsRefusal result (record { caught = self.old.caught; refused = 0 }) (record { caught = self.new.caught; refused = 0 }) }
+        ensures tally { CountsRefusal result (record { caught = self.old.caught; refused = 0 })
+            (record { caught = self.new.caught; refused = 0 }) }
         ensures usable { self.new.usable ≡ is_ok result }
         ensures crash { (c : List ℕ) → may_leave self.new c → may_leave self.old c }
     {

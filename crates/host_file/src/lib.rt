@@ -1,4 +1,5 @@
-//! A file of the operating system for a library that opens none: its contents stand in memory, and whoever owns the file does to it what is noted here, in order.
+//! A file of the operating system for a library that opens none: its contents stand in memory, and whoever owns the
+//! file does to it what is noted here, in order.
 #![tactic(auto)]
 
 mod file;

@@ -9,12 +9,12 @@ use Rattle.hickory_base.specs.requests.Updates.{UpdateMessage, update_of}
 use Rattle.hickory_base.specs.zone_store.ZoneSets.{zone_records}
 use Rattle.hickory_base.specs.declared.errors.UpdateFault.{UpdateFault}
 use Rattle.hickory_base.specs.declared.errors.UpdateFault.TheVariants.{Code}
-use Rattle.hickory_store.specs.UpdatableZone.{UpdatableZone}
-use Rattle.hickory_store.specs.Permission.{Permission, update_permission}
-use Rattle.hickory_store.specs.Prerequisites.{prerequisites_refusal}
-use Rattle.hickory_store.specs.Prescan.{prescan_refusal}
-use Rattle.hickory_store.specs.UpdateAnswers.{AnswersUpdate, IsOutcome, Outcome, applied, unless_refused}
-use Rattle.hickory_store.specs.declared.sqlite.verifier.Verifier.{Ghosts}
+use Rattle.hickory_store.specs.updates.UpdatableZone.{UpdatableZone}
+use Rattle.hickory_store.specs.updates.Permission.{Permission, update_permission}
+use Rattle.hickory_store.specs.updates.Prerequisites.{prerequisites_refusal}
+use Rattle.hickory_store.specs.updates.Prescan.{prescan_refusal}
+use Rattle.hickory_store.specs.updates.UpdateAnswers.{AnswersUpdate, IsOutcome, Outcome, applied, unless_refused}
+use Rattle.hickory_store.specs.declared.updates.verifier.Verifier.{Ghosts}
 use Rattle.durable_updates.specs.DurableUpdates.{AnswersDurably}
 use Rattle.durable_zone.specs.DurableZones.{KeptZone}
 use Rattle.durable_zone.specs.DurableZones as durable
@@ -46,8 +46,8 @@ module _ (zone : MemoryZone) (permission : Permission) (request : ReceivedReques
 module _ {V : Type 0} (by : Ghosts V) where
   -- an update that is acknowledged as one that changed the zone was made
   made : (Reason : Type 0) (old new : UpdatableZone V) (request : ReceivedRequest) (now : ℕ) (answer : Result Bool UpdateFault) (context : Option TSigResponseContext)
-      → AnswersDurably Reason by old request now answer context new → answer ≡ Ok true → AnswersUpdate by old request now (Ok true) context new
-  made Reason old new request now answer context (inl a) is = subst (λ (r : Result Bool UpdateFault). AnswersUpdate by old request now r context new) is a
+      → AnswersDurably Reason by old (request, now) (answer, context) new → answer ≡ Ok true → AnswersUpdate by old (request, now) (Ok true) context new
+  made Reason old new request now answer context (inl a) is = subst (λ (r : Result Bool UpdateFault). AnswersUpdate by old (request, now) r context new) is a
   made Reason old new request now answer context (inr u) is = absurd (let no : ◌≡◌ {A = Result Bool UpdateFault} (Err (Code 2)) (Ok true) = sym u.0 ∙ is in cc)
 
   -- which by its update section
@@ -55,16 +55,16 @@ module _ {V : Type 0} (by : Ghosts V) where
   by_refusal None outcome records is = is
   by_refusal (Some code) outcome records is = absurd is
 
-  changed_by : (old new : UpdatableZone V) (request : ReceivedRequest) (now : ℕ) (context : Option TSigResponseContext) → AnswersUpdate by old request now (Ok true) context new
+  changed_by : (old new : UpdatableZone V) (request : ReceivedRequest) (now : ℕ) (context : Option TSigResponseContext) → AnswersUpdate by old (request, now) (Ok true) context new
       → IsChangedBy (update_of request.message).updates old.zone new.zone
   changed_by old new request now context a =
       let o : DomainName = old.zone.origin in
       let z : List (Record RData) = zone_records old.zone.sets in
       let records : List (Record RData) = zone_records new.zone.sets in
       let message : UpdateMessage = update_of request.message in
-      let last : Outcome = applied o 1 z message.updates true in
-      let scan : Option ℕ = prescan_refusal o 1 message.updates in
-      let required : Option ℕ = prerequisites_refusal o 1 z message.prerequisites in (
+      let last : Outcome = applied o z message.updates true in
+      let scan : Option ℕ = prescan_refusal o message.updates in
+      let required : Option ℕ = prerequisites_refusal o z message.prerequisites in (
         by_refusal scan last records
             (by_refusal required (unless_refused scan last) records
             (by_refusal (update_permission by old.verifier old.allow_update request now).refusal (unless_refused required (unless_refused scan last)) records a.0.0)),
@@ -73,7 +73,7 @@ module _ {V : Type 0} (by : Ghosts V) where
 
   pub changed_history : (old new : KeptZone V) (zone : MemoryZone) (request : ReceivedRequest) (now : ℕ) (answer : Result Bool UpdateFault) (context : Option TSigResponseContext)
       (before : Result (Option Before) AllocError) (history after : List Difference) (seen : MemoryZone) (updates : List (Record RData))
-      → durable.Updates by old request now answer context new → answer ≡ Ok true → zone ≡ new.updatable.zone → seen ≡ old.updatable.zone → updates ≡ (update_of request.message).updates
+      → durable.Updates by old (request, now) answer context new → answer ≡ Ok true → zone ≡ new.updatable.zone → seen ≡ old.updatable.zone → updates ≡ (update_of request.message).updates
       → IsKnown seen updates before → Records before zone history after → IsHistory answer old.updatable.zone new.updatable.zone history after
   changed_history old new zone request now answer context before history after seen updates u is same saw spoken known records =
       let changed : IsChangedBy (update_of request.message).updates old.updatable.zone new.updatable.zone =

@@ -1,4 +1,5 @@
-//! A zone that takes dynamic updates (RFC 2136), and answers a client that has an earlier version of it by the differences since (RFC 1995).
+//! A zone that takes dynamic updates (RFC 2136), and answers a client that has an earlier version of it by the
+//! differences since (RFC 1995).
 #![tactic(auto)]
 
 ghost use Rattle.std.specs.Prelude.{◌≡◌, ◌⊎◌, IfErr, IfOk, IsTrue, None, [], false, not, true};
@@ -25,18 +26,18 @@ use hickory_base::zone_store::{
     AuthLookup, AxfrPolicy, LookupControlFlow, LookupOptions, Nsec3QueryInfo, NxProofKind,
     ZoneHandler, ZoneTransfer, ZoneType,
 };
-use hickory_store::sqlite::{SqliteZoneHandler, Verifier};
+use hickory_store::updates::{UpdatableZoneHandler, Verifier};
 use hickory_wire::{LowerName, RecordType, TSigResponseContext};
 use sqlite_disk::Disk;
 use std::alloc::Global;
 use std::marker::Model;
 use zone_differences::{Before, History};
 
-/// A zone that takes updates and answers standard queries as [`DurableZone`] does, and keeps what its last updates have changed: who asks for what changed
-/// (IXFR) since a version that it still knows gets that, and not the whole zone.
+/// A zone that takes updates and answers standard queries as [`DurableZone`] does, and keeps what its last updates have
+/// changed: who asks for what changed (IXFR) since a version that it still knows gets that, and not the whole zone.
 ///
-/// The differences are kept in memory. Those of a zone with a journal are made anew of its requests when that is opened: after a restart a client gets what
-/// changed too, as far as the journal was not compacted since its version.
+/// The differences are kept in memory. Those of a zone with a journal are made anew of its requests when that is
+/// opened: after a restart a client gets what changed too, as far as the journal was not compacted since its version.
 #[derive(Drop)]
 pub struct IncrementalZone<V: Verifier, D: Disk + Drop> {
     zone: DurableZone<V, D>,
@@ -52,8 +53,9 @@ impl<V: Verifier, D: Disk + Drop> Model for IncrementalZone<V, D> {
 }
 
 impl<V: Verifier, D: Disk + Drop> IncrementalZone<V, D> {
-    /// A zone of which no earlier version is known. It keeps differences of so many records of transfers at most, twice, the SOA records among them; an update
-    /// of more than that, or of more than a thousand records, is not kept, and nor is any before it. It takes no memory.
+    /// A zone of which no earlier version is known. It keeps differences of so many records of transfers at most,
+    /// twice, the SOA records among them; an update of more than that, or of more than a thousand records, is not kept,
+    /// and nor is any before it. It takes no memory.
     pub fn new(alloc: Global, zone: DurableZone<V, D>, limit: usize) -> IncrementalZone<V, D>
         ensures { result ≡ record { kept = zone; history = [] } }
     {
@@ -63,12 +65,13 @@ impl<V: Verifier, D: Disk + Drop> IncrementalZone<V, D> {
         }
     }
 
-    /// Opens the journal that two files are in turns, as [`DurableZone::open`] does, and keeps what the last of its requests have changed: of those behind its
-    /// snapshot, where it was compacted, and of so many last ones as differences are kept of, as [`History::limit_of`] tells of the zone that the first of
-    /// them was done to and `least`. A request that changed nothing counts as one of them. With an error the files are handed back.
+    /// Opens the journal that two files are in turns, as [`DurableZone::open`] does, and keeps what the last of its
+    /// requests have changed: of those behind its snapshot, where it was compacted, and of so many last ones as
+    /// differences are kept of, as [`History::limit_of`] tells of the zone that the first of them was done to and
+    /// `least`. A request that changed nothing counts as one of them. With an error the files are handed back.
     pub fn open(
         alloc: Global,
-        zone: SqliteZoneHandler<V>,
+        zone: UpdatableZoneHandler<V>,
         first: D,
         second: D,
         least: usize,
@@ -76,10 +79,18 @@ impl<V: Verifier, D: Disk + Drop> IncrementalZone<V, D> {
         requires usable { IsTrue (D.is_usable first) × IsTrue (D.is_usable second) }
         // After a restart, what is read is what is on the disk.
         requires restarted { Only (D.seen first) (D.may_leave first) × Only (D.seen second) (D.may_leave second) }
-        ensures followed { IfOk result (λ opened. AreFollowed D.Disk first second zone.zone opened.history (now_of opened)) }
-        ensures others { IfOk result (λ opened. opened.kept ≡ record { updatable = record zone { zone = now_of opened }; is_journalled = true; holds = false }) }
+        ensures followed { IfOk result
+            (λ opened. AreFollowed D.Disk first second zone.zone opened.history (now_of opened)) }
+        ensures others { IfOk result (λ opened.
+            opened.kept ≡ record {
+              updatable = record zone { zone = now_of opened };
+              is_journalled = true;
+              holds =
+                  false;
+            }) }
         ensures err { IfErr result (λ e. IsHandedBack D.Disk first e.1 × IsHandedBack D.Disk second e.2) }
-        ensures refused { IfErr result (λ e. IsTrue (is_no_journal e.0) → IsRefused D.Disk first e.1 ⊎ IsRefused D.Disk second e.2) }
+        ensures refused { IfErr result (λ e. IsTrue (is_no_journal e.0) → IsRefused D.Disk first e.1 ⊎
+            IsRefused D.Disk second e.2) }
     {
         match JournalledZone::open_followed(alloc, zone, first, second, least) {
             Ok((opened, history)) => Ok(IncrementalZone {
@@ -138,9 +149,11 @@ impl<V: Verifier, D: Disk + Drop> ZoneHandler for IncrementalZone<V, D> {
 
     ghost nx_proof_kind_of = { λ _. None };
 
-    ghost lookup_gives = { λ handler name record_type _ _ answer. LookedUp handler.kept.updatable.zone name record_type answer };
+    ghost lookup_gives = { λ handler name record_type _ _ answer.
+        LookedUp handler.kept.updatable.zone name record_type answer };
 
-    ghost search_gives = { λ handler request _ answer context. Searched handler.kept.updatable.zone request answer × (context ≡ None) };
+    ghost search_gives = { λ handler request _ answer context. Searched handler.kept.updatable.zone request answer ×
+        (context ≡ None) };
 
     ghost consult_gives = { λ _ _ _ _ _ last answer context. (answer ≡ last) × (context ≡ None) };
 
@@ -150,7 +163,8 @@ impl<V: Verifier, D: Disk + Drop> ZoneHandler for IncrementalZone<V, D> {
 
     ghost nsec3_gives = { λ _ _ _ answer. answer ≡ Skip };
 
-    ghost update_gives = { Updates V.Verifier };
+    ghost update_gives = { λ old request now answer context new.
+        Updates V.Verifier old (request, now) answer context new };
 
     fn zone_type(&self) -> ZoneType {
         self.zone.zone_type()

@@ -1,7 +1,7 @@
 //! Transfers of a zone of which earlier versions are known.
 
 ghost use Rattle.std.specs.Prelude.{◌≡◌, ◌++◌, Some};
-ghost use Rattle.hickory_store.specs.Permission.{transfer_permission};
+ghost use Rattle.hickory_store.specs.updates.Permission.{transfer_permission};
 ghost use Rattle.hickory_zone.specs.Handled.{held_serial};
 ghost use Rattle.incremental_zone.specs.IncrementalZones.{IsIncremental, TransferGiven, asked_since, since_held, since_version};
 
@@ -9,7 +9,7 @@ use durable_zone::DurableZone;
 use hickory_base::errors::LookupError;
 use hickory_base::server::Request;
 use hickory_base::zone_store::{InMemoryZoneHandler, LookupOptions, ZoneHandler, ZoneTransfer};
-use hickory_store::sqlite::{SqliteZoneHandler, Verifier};
+use hickory_store::updates::{UpdatableZoneHandler, Verifier};
 use hickory_wire::{LowerQuery, RData, Record, RecordType, TSigResponseContext};
 use hickory_zone::handled::{is_by_soa, names_zone};
 use sqlite_disk::Disk;
@@ -42,7 +42,8 @@ fn since_held(history: &History, held: Option<u32>) -> Steps<'_>
     }
 }
 
-/// The differences that a question of the zone asks for: none unless it is an IXFR that is not answered by the SOA alone.
+/// The differences that a question of the zone asks for: none unless it is an IXFR that is not answered by the SOA
+/// alone.
 fn since_version<'h>(
     zone: &InMemoryZoneHandler,
     history: &'h History,
@@ -75,7 +76,7 @@ fn asked_since<'h>(zone: &InMemoryZoneHandler, history: &'h History, request: &R
 
 /// What is given by differences, to whoever may have a transfer.
 fn incremental<V: Verifier>(
-    zone: &SqliteZoneHandler<V>,
+    zone: &UpdatableZoneHandler<V>,
     alloc: Global,
     request: &Request,
     now: u64,
@@ -84,7 +85,8 @@ fn incremental<V: Verifier>(
     Result<ZoneTransfer, LookupError>,
     Option<TSigResponseContext>,
 )
-    ensures { IsIncremental zone.now.zone (differences.entry.older.now ++ differences.entry.newer.now) (transfer_permission V.Verifier zone.now.verifier zone.now.axfr_policy request.now now) (Some result) }
+    ensures { IsIncremental zone.now.zone (differences.entry.older.now ++ differences.entry.newer.now)
+        (transfer_permission V.Verifier zone.now.verifier zone.now.axfr_policy request.now now) (Some result) }
 {
     let (alone, context) = zone.soa_transfer(alloc, request, now);
     match alone {
@@ -96,7 +98,8 @@ fn incremental<V: Verifier>(
     }
 }
 
-/// Transfers the zone: what changed since the version that the client has, where that is asked for and known, and else as the zone does.
+/// Transfers the zone: what changed since the version that the client has, where that is asked for and known, and else
+/// as the zone does.
 pub(crate) fn transfer<V: Verifier, D: Disk + Drop>(
     zone: &DurableZone<V, D>,
     history: &History,

@@ -1,4 +1,5 @@
-//! What the entries of a journal of updates are, by where they stand, and which of them may not stand in the journal of a zone.
+//! What the entries of a journal of updates are, by where they stand, and which of them may not stand in the journal of
+//! a zone.
 #![tactic(auto)]
 
 use durable_updates::{RedoError, read_entry, read_record};

@@ -42,12 +42,14 @@ pub record IsBelow (text : List ℕ) (height : ℕ) : Type 0 where
   pub spelled : IsMetres text cents
   pub low : height + cents ≡ 10000000
 
--- an altitude, in hundredths of a metre from 100,000 metres below the spheroid on; a minus sign stands before one below it (section 2, ALTITUDE)
+-- an altitude, in hundredths of a metre from 100,000 metres below the spheroid on; a minus sign stands before one below
+-- it (section 2, ALTITUDE)
 pub data IsAltitude : List ℕ → ℕ → Type 0 where
   above : {text : List ℕ} {height : ℕ} → get_or text 0 0 ≢ 45 → IsAbove text height → IsAltitude text height
   below : {text : List ℕ} {height : ℕ} → get_or text 0 0 ≡ 45 → IsBelow (drop 1 text) height → IsAltitude text height
 
--- The octet of a size in hundredths of a metre: their first digit, and how many digits stand behind it (section 2, SIZE).
+-- The octet of a size in hundredths of a metre: their first digit, and how many digits stand behind it (section 2,
+-- SIZE).
 pub record IsSizeOctet (cents octet : ℕ) : Type 0 where
   pub base : ℕ
   pub exponent : ℕ
@@ -97,8 +99,8 @@ abbrev pub behind_letter : ℕ → ℕ → List Word → List Word
 behind_letter plus minus [] = []
 behind_letter plus minus (word ∷ words) = if letter_in plus minus word == 0 then behind_letter plus minus words else words
 
--- A latitude or longitude (section 2): an angle of at most so many degrees, and one of two letters, the first of which adds it to 2^31 and the second takes it
--- away.
+-- A latitude or longitude (section 2): an angle of at most so many degrees, and one of two letters, the first of which
+-- adds it to 2^31 and the second takes it away.
 pub record IsCoordinate (plus minus most : ℕ) (words : List Word) (value : ℕ) : Type 0 where
   pub angle : ℕ
   pub measured : IsAngle (before_letter plus minus words) angle
@@ -106,7 +108,8 @@ pub record IsCoordinate (plus minus most : ℕ) (words : List Word) (value : ℕ
   pub lettered : letter_of plus minus words ≢ 0
   pub from_middle : value ≡ (if letter_of plus minus words == plus then 2 ^ 31 + angle else 2 ^ 31 - angle)
 
--- size, horizontal and vertical precision, of which those at the end may be left out: 1 m, 10,000 m and 10 m (section 3)
+-- size, horizontal and vertical precision, of which those at the end may be left out: 1 m, 10,000 m and 10 m (section
+-- 3)
 pub data AreSizes : List Word → List ℕ → Type 0 where
   none : AreSizes [] (18 ∷ 22 ∷ 19 ∷ [])
   one : {s : Word} {a : ℕ} → s.quoted ≡ false → IsSize s.bytes.now a → AreSizes (s ∷ []) (a ∷ 22 ∷ 19 ∷ [])
@@ -117,7 +120,8 @@ pub data AreSizes : List Word → List ℕ → Type 0 where
 abbrev pub location_octets : List ℕ → ℕ → ℕ → ℕ → List ℕ
 location_octets sizes latitude longitude height = 0 ∷ (sizes ++ to_be_bytes w32 latitude ++ to_be_bytes w32 longitude ++ to_be_bytes w32 height)
 
--- Words as they stand for a location (section 3): a latitude, to its letter N or S, a longitude, to its letter E or W, an altitude, and size and precisions.
+-- Words as they stand for a location (section 3): a latitude, to its letter N or S, a longitude, to its letter E or W,
+-- an altitude, and size and precisions.
 pub record IsLocation (words : List Word) (octets : List ℕ) : Type 0 where
   pub latitude : ℕ
   pub longitude : ℕ

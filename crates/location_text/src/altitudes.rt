@@ -21,7 +21,8 @@ fn above(text: &[u8]) -> Option<u32>
     }
 }
 
-/// An altitude below the spheroid, of which the metres below it are told, in hundredths of a metre from the lowest one on.
+/// An altitude below the spheroid, of which the metres below it are told, in hundredths of a metre from the lowest one
+/// on.
 fn below(text: &[u8]) -> Option<u32>
     ensures value { IfSome result (IsBelow text.now) }
     ensures none { IfNone result (HasNone (IsBelow text.now)) }
@@ -55,7 +56,8 @@ fn altitude_of(text: &[u8]) -> Option<u32>
 /// The altitude that a word is, in hundredths of a metre from the lowest one on.
 pub(crate) fn altitude(word: &Word<'_>) -> Result<u32, TextError>
     ensures spelled { IfOk result (λ height. (word.now.quoted ≡ false) × IsAltitude word.now.bytes.now height) }
-    ensures refused { OnErr result (HasNone (λ height. (word.now.quoted ≡ false) × IsAltitude word.now.bytes.now height)) }
+    ensures refused { OnErr result
+        (HasNone (λ height. (word.now.quoted ≡ false) × IsAltitude word.now.bytes.now height)) }
 {
     let bad = word.fault(TextFault::BadNumber);
     if word.quoted {

@@ -45,8 +45,8 @@ fn seconds(word: &Word<'_>) -> Result<u64, TextError>
     }
 }
 
-/// The angle that words are, in thousandths of a second: degrees, minutes and seconds, of which the last two may be left out. `end` is the place where
-/// a word is missing.
+/// The angle that words are, in thousandths of a second: degrees, minutes and seconds, of which the last two may be
+/// left out. `end` is the place where a word is missing.
 pub(crate) fn angle(words: &[Word<'_>], end: usize) -> Result<u64, TextError>
     ensures spelled { IfOk result (IsAngle words.now) }
     ensures refused { OnErr result ((n : ℕ) → IsAngle words.now n → n < 2 ^ 32 → ⊥) }

@@ -139,9 +139,9 @@ fn put_wire(
     data.extend_from_slice(&height.to_be_bytes())
 }
 
-/// Puts the location behind other bytes that words are (RFC 1876 sections 2 and 3): degrees, minutes and seconds north or south, the same east or west, an
-/// altitude, and a size with a horizontal and a vertical precision. `end` is the place where a word is missing. What is refused, but for want of memory,
-/// is no location.
+/// Puts the location behind other bytes that words are (RFC 1876 sections 2 and 3): degrees, minutes and seconds north
+/// or south, the same east or west, an altitude, and a size with a horizontal and a vertical precision. `end` is the
+/// place where a word is missing. What is refused, but for want of memory, is no location.
 pub fn put_location(words: &[Word<'_>], end: usize, data: &mut Vec<u8>) -> Result<(), TextError>
     ensures put { OnOk result (Puts (IsLocation words.now) «data».old.items «data».new.items) }
     ensures refused { IfErr result (λ e. e ≢ Memory → HasNone (IsLocation words.now)) }

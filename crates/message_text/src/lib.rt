@@ -6,8 +6,8 @@
 use hickory_wire::{Edns, EdnsOption, Message, MessageType, Metadata, OpCode, Query, Record, TSIG};
 use std::fmt;
 
-/// A message as `dig` prints one: a header line with kind, code, id and flags; the question; each section that has records, in the text of
-/// a zone; what the OPT record says; and the size.
+/// A message as `dig` prints one: a header line with kind, code, id and flags; the question; each section that has
+/// records, in the text of a zone; what the OPT record says; and the size.
 #[derive(Clone, Copy, Debug)]
 pub struct MessageText<'a> {
     /// The message.
@@ -16,7 +16,8 @@ pub struct MessageText<'a> {
     pub size: Option<usize>,
 }
 
-/// The flags of a header that are set, each by its mnemonic behind a space, in the order of their bits (RFC 1035 section 4.1.1, RFC 4035 section 3).
+/// The flags of a header that are set, each by its mnemonic behind a space, in the order of their bits (RFC 1035
+/// section 4.1.1, RFC 4035 section 3).
 #[derive(Clone, Copy, Debug)]
 pub struct FlagsText<'a> {
     /// The header.

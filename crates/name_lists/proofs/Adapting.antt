@@ -99,7 +99,8 @@ counted_one counts (Some (name ∷ names)) = omega arith
 
 -- ---- the lines so far
 
--- The lines at the front became these, and their names and counts were told; what becomes of those left is still to be seen.
+-- The lines at the front became these, and their names and counts were told; what becomes of those left is still to be
+-- seen.
 pub record Adapting (lines left : List (List ℕ)) (text : List ℕ) (counts : Counts) : Type 0 where
   pub outcomes : List (Option (List DomainName))
   pub done : (os : List (Option (List DomainName))) → BecomeOf left os → BecomeOf lines (outcomes ++ os)

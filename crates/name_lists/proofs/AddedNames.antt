@@ -5,10 +5,10 @@ use Rattle.std.specs.Str.{IsUtf8}
 use Rattle.std.specs.Str.Lines.{lines}
 use Rattle.std.proofs.lemmas.List.{append-nil}
 use Rattle.wire_names.specs.rr.domain.DomainName.{DomainName}
-use Rattle.hickory_store.specs.Adding.{Adds}
-use Rattle.hickory_store.specs.Entries.{HasEntry}
-use Rattle.hickory_store.specs.ListLines.{Lists}
-use Rattle.hickory_store.specs.Readers.{ReadsToEnd}
+use Rattle.hickory_store.specs.blocklist.AddedLists.{Adds}
+use Rattle.hickory_store.specs.blocklist.Entries.{HasEntry}
+use Rattle.hickory_store.specs.blocklist.ListLines.{Lists}
+use Rattle.hickory_store.specs.blocklist.Readers.{ReadsToEnd}
 use Rattle.hickory_store.specs.declared.blocklist.handler.AddError.{AddError}
 use Rattle.hickory_store.specs.declared.blocklist.handler.AddError.TheVariants.{Io, NotUtf8, Memory}
 use Rattle.name_lists.specs.Adding.{AddsList, AddsSome}

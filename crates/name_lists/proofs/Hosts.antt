@@ -7,7 +7,8 @@ use Rattle.std.specs.Prelude.{MatchBool}
 use Rattle.name_lists.specs.Gives.{GivesAlone, GivesHost, GivesHosts, GivesHostsLine, GivesWords, is_root_alias}
 use Rattle.name_lists.specs.Names.{GivesName, plain_line, plain_lines}
 
--- The words at the front of a line gave these names, whose lines stand behind the old ones; the words left give the rest.
+-- The words at the front of a line gave these names, whose lines stand behind the old ones; the words left give the
+-- rest.
 pub record HostsSoFar (is_behind_sink : Bool) (words left : List (List ℕ)) (old new : List ℕ) : Type 0 where
   pub given : List DomainName
   pub written : new ≡ old ++ plain_lines given

@@ -11,8 +11,8 @@ use Rattle.std.proofs.lemmas.List.Splits.{slice_split_at}
 use Rattle.wire_names.specs.rr.domain.DomainName.{DomainName}
 use Rattle.wire_names.specs.rr.domain.NameOrder.{SameName}
 use Rattle.wire_names.specs.rr.domain.NameText.{IsNameByte, IsTextLabel, IsNameText, name_text}
-use Rattle.hickory_store.specs.Entries.{HasEntry}
-use Rattle.hickory_store.specs.ListLines.{Lists, name_of, name_part, is_comment, is_blank}
+use Rattle.hickory_store.specs.blocklist.Entries.{HasEntry}
+use Rattle.hickory_store.specs.blocklist.ListLines.{Lists, name_of, name_part, is_comment, is_blank}
 use Rattle.name_lists.specs.Counts.{BecomeOf, given_names}
 use Rattle.name_lists.specs.Gives.{GivesAlone, GivesHost, GivesHosts, GivesHostsLine, GivesWords, covered_name, is_local, is_root_alias, is_sink}
 use Rattle.name_lists.specs.Names.{Spells, IsCovered, GivesName, GivesBelow, ascii_text, qualified, wildcard_over, plain_lines}

@@ -1,7 +1,7 @@
 -- What adding a list, as people have it, does to a list of blocked names.
 use Rattle.std.specs.Prelude.{◌≡◌, ◌↔◌, ◌⊎◌, ℕ, List, Option}
 use Rattle.wire_names.specs.rr.domain.DomainName.{DomainName}
-use Rattle.hickory_store.specs.Entries.{HasEntry}
+use Rattle.hickory_store.specs.blocklist.Entries.{HasEntry}
 use Rattle.name_lists.specs.Counts.{BecomesOfText, Counts, counts_of, given_names}
 
 -- the name is one of those that the lines of the text give, letter case aside

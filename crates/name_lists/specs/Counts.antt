@@ -10,7 +10,7 @@ abbrev pub BecomesOf : List ℕ → Option (List DomainName) → Type 0
 BecomesOf line (Some names) = Gives line names
 BecomesOf line None = (names : List DomainName) → ¬ (Gives line names)
 
--- the same of each line
+-- Each line gives these names, or is skipped.
 abbrev pub BecomeOf : List (List ℕ) → List (Option (List DomainName)) → Type 0
 BecomeOf [] [] = Unit {0}
 BecomeOf [] (outcome ∷ outcomes) = ⊥
@@ -35,7 +35,8 @@ skipped_numbers first [] = []
 skipped_numbers first (None ∷ outcomes) = first ∷ skipped_numbers (first + 1) outcomes
 skipped_numbers first (Some names ∷ outcomes) = skipped_numbers (first + 1) outcomes
 
--- How many lines give names, how many give none, how many are skipped, and the numbers of the first three of those, counted from 1.
+-- How many lines give names, how many give none, how many are skipped, and the numbers of the first three of those,
+-- counted from 1.
 pub record Counts : Type 0 where
   pub taken : ℕ
   pub without_names : ℕ

@@ -22,7 +22,8 @@ is_address word = list_all is_address_byte word || list_any (λ b. b == 58) word
 abbrev pub is_local : List ℕ → Bool
 is_local word = is_among word (words (codes "localhost localhost.localdomain local broadcasthost 0.0.0.0 ip6-localhost ip6-loopback ip6-localnet ip6-mcastprefix ip6-allnodes ip6-allrouters ip6-allhosts localhost4 localhost4.localdomain4 localhost6 localhost6.localdomain6"))
 
--- A word of a hosts line behind its address: a local name gives nothing, and only behind a sink's address may any other name stand.
+-- A word of a hosts line behind its address: a local name gives nothing, and only behind a sink's address may any other
+-- name stand.
 abbrev pub GivesHost : Bool → List ℕ → List DomainName → Type 0
 GivesHost is_behind_sink word names = MatchBool (is_local word) (names ≡ []) (IsTrue is_behind_sink × GivesName word names)
 
@@ -42,8 +43,8 @@ filter_name word =
     if starts_with nat_eq word (codes "||") && ends_with nat_eq (drop 2 word) (codes "^")
     then Some (take (length (drop 2 word) - 1) (drop 2 word)) else None
 
--- The parts of `address=/name/..` or `local=/name/` of dnsmasq's configuration between its slashes: the name. Behind the first form
--- any address may stand, or none.
+-- The parts of `address=/name/..` or `local=/name/` of dnsmasq's configuration between its slashes: the name. Behind
+-- the first form any address may stand, or none.
 abbrev pub name_of_option : List (List ℕ) → Option (List ℕ)
 name_of_option (key ∷ name ∷ behind ∷ []) = if bytes_eq key (codes "address=") || (bytes_eq key (codes "local=") && (length behind == 0)) then Some name else None
 name_of_option _ = None
@@ -64,8 +65,8 @@ abbrev pub is_root_alias : List (List ℕ) → Bool
 is_root_alias (kind ∷ target ∷ []) = bytes_eq (map to_ascii_lowercase kind) (codes "cname") && bytes_eq target (codes ".")
 is_root_alias _ = false
 
--- By words: a blank line or a comment; a name alone, as it is or as filter lists and dnsmasq write it; a name of a response policy zone; or
--- a line of a hosts file.
+-- By words: a blank line or a comment; a name alone, as it is or as filter lists and dnsmasq write it; a name of a
+-- response policy zone; or a line of a hosts file.
 abbrev pub GivesWords : List (List ℕ) → List DomainName → Type 0
 GivesWords [] names = names ≡ []
 GivesWords (word ∷ []) names = GivesAlone word names

@@ -8,7 +8,8 @@ use Rattle.wire_names.specs.rr.domain.DomainName.{DomainName, name_len}
 use Rattle.wire_names.specs.rr.domain.NameOrder.{counted_labels}
 use Rattle.wire_names.specs.rr.domain.NameText.{IsNameText, name_text}
 
--- What a word is in ASCII: itself, or by UTS 46 (ToASCII, section 4.2) where a byte of it is not ASCII, if that has an answer.
+-- What a word is in ASCII: itself, or by UTS 46 (ToASCII, section 4.2) where a byte of it is not ASCII, if that has an
+-- answer.
 abbrev pub ascii_text : List ℕ → Option (List ℕ)
 ascii_text word = if list_all is_ascii word then Some word else domain_to_ascii EMPTY word
 
@@ -23,8 +24,8 @@ is_address_byte b = is_ascii_digit b || (b == 46)
 abbrev pub qualified : DomainName → DomainName
 qualified name = record { labels = name.labels; is_fqdn = true }
 
--- The text spells a name that a list may block, with or without its last dot: a wildcard over two labels at least (RFC 4592,
--- section 2.1.1), or a name of two labels at least, that is no address (RFC 1123, section 2.1).
+-- The text spells a name that a list may block, with or without its last dot: a wildcard over two labels at least (RFC
+-- 4592, section 2.1.1), or a name of two labels at least, that is no address (RFC 1123, section 2.1).
 pub record Spells (text : List ℕ) (name : DomainName) : Type 0 where
   pub written : DomainName
   pub spelled : IsNameText text written
@@ -46,7 +47,8 @@ wildcard_over base = record { labels = (42 ∷ []) ∷ base; is_fqdn = true }
 abbrev pub GivesName : List ℕ → List DomainName → Type 0
 GivesName word names = IsSomeAnd (ascii_text word) (λ text. (name : DomainName) × Spells text name × (names ≡ name ∷ []))
 
--- a name that is no wildcard, and all names below it: the wildcard over it, which has 255 bytes at most (RFC 1035, section 2.3.4)
+-- a name that is no wildcard, and all names below it: the wildcard over it, which has 255 bytes at most (RFC 1035,
+-- section 2.3.4)
 pub record IsCovered (text : List ℕ) (name : DomainName) : Type 0 where
   pub spells : Spells text name
   pub plain : list_any is_asterisk text ≡ false

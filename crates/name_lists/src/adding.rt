@@ -21,7 +21,8 @@ impl ListReader for PlainLines {
     }
 }
 
-/// Adds the names that the lines of a list give to those of a list of blocked names, and tells what became of the lines.
+/// Adds the names that the lines of a list give to those of a list of blocked names, and tells what became of the
+/// lines.
 pub fn add_list(
     alloc: Global,
     list: &mut BlocklistZoneHandler,

@@ -43,7 +43,8 @@ fn push_host(
     word: &[u8],
     names: &mut String,
 ) -> Result<bool, AllocError>
-    ensures { IfOk result (λ is_given. Pushes (spec.GivesHost is_behind_sink word.now) is_given (string_bytes names.old) (string_bytes names.new)) }
+    ensures { IfOk result (λ is_given. Pushes (spec.GivesHost is_behind_sink word.now) is_given (string_bytes names.old)
+        (string_bytes names.new)) }
 {
     if is_local(word) {
         return Ok(true);
@@ -61,7 +62,8 @@ fn push_hosts(
     text: &[u8],
     names: &mut String,
 ) -> Result<bool, AllocError>
-    ensures { IfOk result (λ is_given. Pushes (spec.GivesHosts is_behind_sink (words_before_comment text.now)) is_given (string_bytes names.old) (string_bytes names.new)) }
+    ensures { IfOk result (λ is_given. Pushes (spec.GivesHosts is_behind_sink (words_before_comment text.now)) is_given
+        (string_bytes names.old) (string_bytes names.new)) }
 {
     let mut rest = text;
     while let Some((word, behind)) = next_word(rest) {
@@ -80,7 +82,8 @@ fn push_hosts_line(
     text: &[u8],
     names: &mut String,
 ) -> Result<bool, AllocError>
-    ensures { IfOk result (λ is_given. Pushes (spec.GivesHostsLine address.now (words_before_comment text.now)) is_given (string_bytes names.old) (string_bytes names.new)) }
+    ensures { IfOk result (λ is_given. Pushes (spec.GivesHostsLine address.now (words_before_comment text.now)) is_given
+        (string_bytes names.old) (string_bytes names.new)) }
 {
     if !is_address(address) {
         return Ok(false);
@@ -134,7 +137,8 @@ fn covered_name(word: &[u8]) -> Option<&[u8]>
 
 /// Writes the names of a word alone on its line.
 fn push_alone(alloc: Global, word: &[u8], names: &mut String) -> Result<bool, AllocError>
-    ensures { IfOk result (λ is_given. Pushes (spec.GivesAlone word.now) is_given (string_bytes names.old) (string_bytes names.new)) }
+    ensures { IfOk result (λ is_given. Pushes (spec.GivesAlone word.now) is_given (string_bytes names.old)
+        (string_bytes names.new)) }
 {
     match covered_name(word) {
         Some(name) => push_covered(alloc, name, names),
@@ -157,7 +161,8 @@ fn is_root_alias(text: &[u8]) -> bool
 
 /// Writes the names of the words of a text.
 fn push_words(alloc: Global, text: &[u8], names: &mut String) -> Result<bool, AllocError>
-    ensures { IfOk result (λ is_given. Pushes (spec.GivesWords (words_before_comment text.now)) is_given (string_bytes names.old) (string_bytes names.new)) }
+    ensures { IfOk result (λ is_given. Pushes (spec.GivesWords (words_before_comment text.now)) is_given
+        (string_bytes names.old) (string_bytes names.new)) }
 {
     let Some((word, behind)) = next_word(text) else {
         return Ok(true);

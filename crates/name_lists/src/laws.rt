@@ -13,10 +13,12 @@ pub fn a_line_gives_one_list()
 
 /// A text is adapted in one way.
 pub fn a_text_is_adapted_in_one_way()
-    ensures { (text plain other : List ℕ) (counts others : Counts) → IsAdapted text plain counts → IsAdapted text other others → (plain ≡ other) × (counts ≡ others) }
+    ensures { (text plain other : List ℕ) (counts others : Counts) → IsAdapted text plain counts →
+        IsAdapted text other others → (plain ≡ other) × (counts ≡ others) }
 {}
 
 /// The counts of a text add up to the number of its lines.
 pub fn counts_add_up()
-    ensures { (text plain : List ℕ) (counts : Counts) → IsAdapted text plain counts → lines_in counts ≡ length (lines_of (without_mark text)) }
+    ensures { (text plain : List ℕ) (counts : Counts) → IsAdapted text plain counts →
+        lines_in counts ≡ length (lines_of (without_mark text)) }
 {}

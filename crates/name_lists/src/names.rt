@@ -57,7 +57,8 @@ pub(crate) fn is_dotted(text: &[u8]) -> bool
 
 /// Whether the bytes of a text are such as a blocked name has: `*` at the front alone, and not those of an address.
 fn may_be_blocked(text: &[u8]) -> bool
-    ensures { IsTrue result ↔ ((list_any spec.is_asterisk (drop 1 text.now) ≡ false) × (list_all spec.is_address_byte text.now ≡ false)) }
+    ensures { IsTrue result ↔ ((list_any spec.is_asterisk (drop 1 text.now) ≡ false) ×
+        (list_all spec.is_address_byte text.now ≡ false)) }
 {
     match text {
         [] => false,
@@ -86,7 +87,10 @@ fn read_word<'w>(
     alloc: Global,
     word: &'w [u8],
 ) -> Result<Option<(CowStr<'w, Global>, Name)>, AllocError>
-    ensures { IfOk result (λ read. MatchOption read ((text : List ℕ) (name : DomainName) → spec.ascii_text word.now ≡ Some text → ¬ (spec.Spells text name)) (λ r. (spec.ascii_text word.now ≡ Some (cow_str_bytes r.0)) × spec.ReadsName (cow_str_bytes r.0) (Some r.1))) }
+    ensures { IfOk result (λ read.
+        MatchOption read ((text : List ℕ) (name : DomainName) → spec.ascii_text word.now ≡ Some text →
+        ¬ (spec.Spells text name)) (λ r. (spec.ascii_text word.now ≡ Some (cow_str_bytes r.0)) ×
+        spec.ReadsName (cow_str_bytes r.0) (Some r.1))) }
 {
     let Some(text) = ascii_text(alloc, word)? else {
         return Ok(None);
@@ -107,7 +111,8 @@ fn line_end(is_fqdn: bool) -> &'static str
 /// Writes the plain line of the name that a text spells.
 fn push_line(names: &mut String, text: &str, name: &Name) -> Result<(), AllocError>
     requires { IsNameText text.now name.now }
-    ensures { OnOk result (string_bytes names.new ≡ string_bytes names.old ++ spec.plain_line (spec.qualified name.now)) }
+    ensures { OnOk result (string_bytes names.new ≡ string_bytes names.old ++ spec.plain_line
+        (spec.qualified name.now)) }
 {
     names.push_str(text)?;
     names.push_str(line_end(name.is_fqdn()))
@@ -115,7 +120,8 @@ fn push_line(names: &mut String, text: &str, name: &Name) -> Result<(), AllocErr
 
 /// Writes the plain line of the name of a word, if it is one.
 pub(crate) fn push_name(alloc: Global, word: &[u8], names: &mut String) -> Result<bool, AllocError>
-    ensures { IfOk result (λ is_name. Pushes (spec.GivesName word.now) is_name (string_bytes names.old) (string_bytes names.new)) }
+    ensures { IfOk result (λ is_name. Pushes (spec.GivesName word.now) is_name (string_bytes names.old)
+        (string_bytes names.new)) }
 {
     let Some((text, name)) = read_word(alloc, word)? else {
         return Ok(false);
@@ -137,7 +143,8 @@ pub(crate) fn push_covered(
     word: &[u8],
     names: &mut String,
 ) -> Result<bool, AllocError>
-    ensures { IfOk result (λ is_name. Pushes (spec.GivesBelow word.now) is_name (string_bytes names.old) (string_bytes names.new)) }
+    ensures { IfOk result (λ is_name. Pushes (spec.GivesBelow word.now) is_name (string_bytes names.old)
+        (string_bytes names.new)) }
 {
     let Some((text, name)) = read_word(alloc, word)? else {
         return Ok(false);

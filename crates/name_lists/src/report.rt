@@ -23,7 +23,13 @@ impl Model for ListReport {
 
     ghost Value = { Counts };
 
-    ghost view = { λ r. record { taken = r.taken; without_names = r.without_names; skipped = r.skipped; first_skipped = take r.skipped r.first_skipped } };
+    ghost view = { λ r. record {
+      taken = r.taken;
+      without_names = r.without_names;
+      skipped = r.skipped;
+      first_skipped =
+          take r.skipped r.first_skipped;
+    } };
 }
 
 impl ListReport {
@@ -46,7 +52,8 @@ impl ListReport {
         self.taken
     }
 
-    /// How many lines gave no name and were to give none: empty ones, comments, and lines of a hosts file for the machine itself.
+    /// How many lines gave no name and were to give none: empty ones, comments, and lines of a hosts file for the
+    /// machine itself.
     pub fn without_names(&self) -> usize
         ensures { result ≡ self.now.without_names }
     {

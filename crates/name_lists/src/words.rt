@@ -42,7 +42,9 @@ pub(crate) fn before(text: &[u8], byte: u8) -> &[u8]
 
 /// What stands before and behind the first such byte.
 pub(crate) fn split_at_byte(text: &[u8], byte: u8) -> Option<(&[u8], &[u8])>
-    ensures { MatchOption result (slice_split (λ b. b == byte) text.now ≡ text.now ∷ []) (λ p. (slice_split (λ b. b == byte) text.now ≡ p.0.now ∷ slice_split (λ b. b == byte) p.1.now) × (length p.1.now < length text.now)) }
+    ensures { MatchOption result (slice_split (λ b. b == byte) text.now ≡ text.now ∷ [])
+        (λ p. (slice_split (λ b. b == byte) text.now ≡ p.0.now ∷ slice_split (λ b. b == byte) p.1.now) ×
+        (length p.1.now < length text.now)) }
 {
     let Some(len) = first_at(text, byte) else {
         return None;
@@ -64,7 +66,8 @@ pub(crate) fn without_mark(text: &[u8]) -> &[u8]
 
 /// The first line of a text, and what stands behind it.
 pub(crate) fn split_line(text: &[u8]) -> Option<(&[u8], &[u8])>
-    ensures { MatchOption result (text.now ≡ []) (λ p. (spec.lines_of text.now ≡ p.0.now ∷ spec.lines_of p.1.now) × (length p.1.now < length text.now)) }
+    ensures { MatchOption result (text.now ≡ []) (λ p. (spec.lines_of text.now ≡ p.0.now ∷ spec.lines_of p.1.now) ×
+        (length p.1.now < length text.now)) }
 {
     if text.is_empty() {
         return None;
@@ -85,7 +88,8 @@ fn word_len(text: &[u8]) -> usize
 
 /// The word at the front of a text, and what stands behind it.
 fn split_word(text: &[u8]) -> Option<(&[u8], &[u8])>
-    ensures { MatchOption result (spec.words text.now ≡ []) (λ p. (spec.words text.now ≡ p.0.now ∷ spec.words p.1.now) × (length p.1.now < length text.now)) }
+    ensures { MatchOption result (spec.words text.now ≡ []) (λ p. (spec.words text.now ≡ p.0.now ∷ spec.words p.1.now) ×
+        (length p.1.now < length text.now)) }
 {
     let Some(start) = first_word(text) else {
         return None;
@@ -107,7 +111,9 @@ fn begins_comment(word: &[u8]) -> bool
 
 /// The word at the front of a text, unless it begins a comment, and what stands behind it.
 pub(crate) fn next_word(text: &[u8]) -> Option<(&[u8], &[u8])>
-    ensures { MatchOption result (spec.words_before_comment text.now ≡ []) (λ p. (spec.words_before_comment text.now ≡ p.0.now ∷ spec.words_before_comment p.1.now) × (length p.1.now < length text.now)) }
+    ensures { MatchOption result (spec.words_before_comment text.now ≡ [])
+        (λ p. (spec.words_before_comment text.now ≡ p.0.now ∷ spec.words_before_comment p.1.now) ×
+        (length p.1.now < length text.now)) }
 {
     let Some((word, behind)) = split_word(text) else {
         return None;

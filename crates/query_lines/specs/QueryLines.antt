@@ -18,8 +18,8 @@ byte_text byte = cond (is_plain byte) (byte ∷ []) (92 ∷ (48 + byte / 100) �
 abbrev pub dot_behind : ℕ → List ℕ
 dot_behind left = cond (left == 0) (codes ".") []
 
--- The labels at the front of bytes, each behind its length (RFC 1035 section 3.1), where so many bytes are left of the first: each has a dot behind it. They end
--- with the length 0, or with the bytes.
+-- The labels at the front of bytes, each behind its length (RFC 1035 section 3.1), where so many bytes are left of the
+-- first: each has a dot behind it. They end with the length 0, or with the bytes.
 abbrev pub labels_text : ℕ → List ℕ → List ℕ
 labels_text left [] = []
 labels_text zero (byte ∷ bytes) = cond (byte == 0) [] (labels_text byte bytes)
@@ -108,8 +108,8 @@ query_line now address stream query reply size =
 abbrev pub IsVisible : ℕ → Type 0
 IsVisible byte = (33 ≤ byte) × (byte ≤ 126)
 
--- Whatever bytes a message has, what a line says of it are visible characters alone: its name, its class and type, which are numbers of 16 bits, its code. So it neither
--- adds a word to a line nor a line to a log.
+-- Whatever bytes a message has, what a line says of it are visible characters alone: its name, its class and type,
+-- which are numbers of 16 bits, its code. So it neither adds a word to a line nor a line to a log.
 abbrev pub WordsAreVisible : Type 0
 WordsAreVisible = ((body : List ℕ) → All (λ byte. byte < 256) body → All IsVisible (name_text body))
     × ((number : ℕ) → number < 2 ^ 16 → All IsVisible (class_text number) × All IsVisible (type_text number) × All IsVisible (code_text number))

@@ -16,16 +16,16 @@ is_due log = is_on log && log.left == 0
 abbrev pub counted : QueryLog → QueryLog
 counted log = cond (is_on log) (record log { left = cond (log.left == 0) (log.every - 1) (log.left - 1) }) log
 
--- the line of a query: of a message that is no query, and may have a name without an end, its first 271 bytes alone, in which each first question has room: a
--- header of 12, a name of 255 (RFC 1035 sections 4.1.1 and 3.1), a type and a class
+-- the line of a query that came at this moment from this address, over a stream or as a datagram, and has this reply:
+-- of a message that is no query, and may have a name without an end, its first 271 bytes alone, in which each first
+-- question has room: a header of 12, a name of 255 (RFC 1035 sections 4.1.1 and 3.1), a type and a class
 abbrev pub told_line : ℕ → IpAddr → Bool → List ℕ → List ℕ → List ℕ
 told_line now address stream query reply = query_line now address stream (take 271 query) reply (length reply)
 
--- What becomes of a log at a query that came at this moment from this address, over a stream or as a datagram, and has this reply.
-pub data IsLogged (old : QueryLog) (now : ℕ) (address : IpAddr) (stream : Bool) (query reply : List ℕ) (new : QueryLog) : Type 0 where
-  left_out : is_due old ≡ false → new ≡ counted old → IsLogged old now address stream query reply new
+-- What becomes of a log at a query of which this is the line.
+pub data IsLogged (old : QueryLog) (line : List ℕ) (new : QueryLog) : Type 0 where
+  left_out : is_due old ≡ false → new ≡ counted old → IsLogged old line new
   -- Its line stands behind those that wait.
-  told : is_due old ≡ true → new ≡ record (counted old) { lines = new.lines } → new.lines.items ≡ old.lines.items ++ told_line now address stream query reply
-      → IsLogged old now address stream query reply new
+  told : is_due old ≡ true → new ≡ record (counted old) { lines = new.lines } → new.lines.items ≡ old.lines.items ++ line → IsLogged old line new
   -- Memory was refused for its line.
-  lost : is_due old ≡ true → new ≡ record (counted old) { lines = new.lines } → new.lines.items ≡ old.lines.items → IsLogged old now address stream query reply new
+  lost : is_due old ≡ true → new ≡ record (counted old) { lines = new.lines } → new.lines.items ≡ old.lines.items → IsLogged old line new

@@ -106,8 +106,9 @@ fn body_of(message: &[u8]) -> &[u8]
     }
 }
 
-/// Puts a line last that tells a query, which came at a moment (seconds since 1970) from an address over a stream or as a datagram, by its first question, and
-/// a reply to it by its code and a number of bytes. After an error a part of the line may have been put, without its end.
+/// Puts a line last that tells a query, which came at a moment (seconds since 1970) from an address over a stream or as
+/// a datagram, by its first question, and a reply to it by its code and a number of bytes. After an error a part of the
+/// line may have been put, without its end.
 pub fn put_query_line(
     alloc: Global,
     now: u64,

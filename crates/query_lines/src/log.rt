@@ -13,7 +13,8 @@ const MOST_BYTES: usize = 262_144;
 /// So many bytes of a message have a header and a question at most (RFC 1035 section 4.1).
 const MOST_FRONT: usize = 271;
 
-/// Lines that tell queries and wait to be taken. Of so many queries one has a line, and none where that is 0; so many are left out before the next line.
+/// Lines that tell queries and wait to be taken. Of so many queries one has a line, and none where that is 0; so many
+/// are left out before the next line.
 #[derive(Drop)]
 pub struct QueryLog {
     every: u32,
@@ -87,7 +88,8 @@ impl QueryLog {
         query: &[u8],
         reply: &[u8],
     ) -> Result<(), AllocError>
-        ensures ok { OnOk result (self.new.lines.items ≡ self.old.lines.items ++ told_line now address stream query.now reply.now) }
+        ensures ok { OnOk result (self.new.lines.items ≡ self.old.lines.items ++ told_line now address stream query.now
+            reply.now) }
         ensures others { self.new ≡ record self.old { lines = self.new.lines } }
         ensures err { OnErr result (self.new.lines.items ≡ self.old.lines.items) }
     {
@@ -116,7 +118,7 @@ impl QueryLog {
         query: &[u8],
         reply: &[u8],
     )
-        ensures { IsLogged self.old now address stream query.now reply.now self.new }
+        ensures { IsLogged self.old (told_line now address stream query.now reply.now) self.new }
     {
         if self.is_due() {
             let _told = self.tell(alloc, now, address, stream, query, reply);

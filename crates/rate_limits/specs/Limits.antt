@@ -9,7 +9,8 @@ abbrev pub spelled : ℕ → List ℕ → ℕ
 spelled so_far [] = so_far
 spelled so_far (byte ∷ bytes) = spelled (256 * so_far + byte) bytes
 
--- the network of an address: the first 24 bits of the four bytes of IPv4, above all networks of IPv6; or the first 56 of the sixteen bytes of IPv6
+-- the network of an address: the first 24 bits of the four bytes of IPv4, above all networks of IPv6; or the first 56
+-- of the sixteen bytes of IPv6
 abbrev pub network_of : List ℕ → ℕ
 network_of (a ∷ b ∷ c ∷ d ∷ []) = 2 ^ 56 + spelled 0 (a ∷ b ∷ c ∷ [])
 network_of (a ∷ b ∷ c ∷ d ∷ e ∷ f ∷ g ∷ rest) = spelled 0 (a ∷ b ∷ c ∷ d ∷ e ∷ f ∷ g ∷ [])
@@ -41,7 +42,8 @@ counted_in number place = if nat_eq place.window number then place.count else 0
 abbrev pub counted_before : Limits → List ℕ → ℕ → ℕ
 counted_before limits address now = counted_in (now / limits.window) (get_or limits.places (place_of address) empty)
 
--- What becomes of a reply before which so many were counted: up to the limit they are sent, and of those above it each so many is sent truncated.
+-- What becomes of a reply before which so many were counted: up to the limit they are sent, and of those above it each
+-- so many is sent truncated.
 abbrev pub verdict_of : ℕ → ℕ → ℕ → Verdict
 verdict_of limit slip count =
     if nat_lt count limit then Send else

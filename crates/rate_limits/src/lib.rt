@@ -1,6 +1,7 @@
-//! How many replies over UDP a network of clients gets: an address of a datagram may be false, and then its replies go to somebody who did
-//! not ask. By what NSD's manual says of response rate limiting: replies of a network above a rate are dropped, but of those every so many
-//! is sent truncated, so that a client that is there asks again over TCP, where no address is false.
+//! How many replies over UDP a network of clients gets: an address of a datagram may be false, and then its replies go
+//! to somebody who did not ask. By what NSD's manual says of response rate limiting: replies of a network above a rate
+//! are dropped, but of those every so many is sent truncated, so that a client that is there asks again over TCP, where
+//! no address is false.
 #![tactic(auto)]
 
 mod limits;

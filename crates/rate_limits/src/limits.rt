@@ -71,11 +71,12 @@ impl Model for RateLimits {
 }
 
 impl RateLimits {
-    /// So many replies a second to a network of clients, reckoned over windows of so many seconds; of those above it each so many is sent
-    /// truncated (`slip`), and none where it is 0. An error says that memory was refused.
+    /// So many replies a second to a network of clients, reckoned over windows of so many seconds; of those above it
+    /// each so many is sent truncated (`slip`), and none where it is 0. An error says that memory was refused.
     pub fn new(alloc: Global, rate: u32, slip: u32, window: u32) -> Result<RateLimits, AllocError>
         requires { 1 ≤ window }
-        ensures { IfOk result (λ limits. limits ≡ record { limit = rate * window; slip = slip; window = window; places = replicate 65521 empty }) }
+        ensures { IfOk result (λ limits.
+            limits ≡ record { limit = rate * window; slip = slip; window = window; places = replicate 65521 empty }) }
     {
         let nothing = Place {
             window: 0,
@@ -89,7 +90,8 @@ impl RateLimits {
         })
     }
 
-    /// What becomes of a reply to an address, the four bytes of IPv4 or the sixteen of IPv6, at a moment in seconds; and counts it.
+    /// What becomes of a reply to an address, the four bytes of IPv4 or the sixteen of IPv6, at a moment in seconds;
+    /// and counts it.
     pub fn judge(&mut self, address: &[u8], now: u64) -> Verdict
         ensures verdict { result ≡ verdict_of self.old.limit self.old.slip (counted_before self.old address.now now) }
         ensures counted { self.new ≡ one_more self.old address.now now }

@@ -6,8 +6,8 @@ ghost use Rattle.rate_limits.specs.Limits.{network_of, place_of};
 /// How many places networks are counted at: a prime number.
 pub(crate) const PLACES: usize = 65_521;
 
-/// The network of an address as a number: the first 24 bits of the four bytes of IPv4, above all of IPv6; or the first 56 of the sixteen of
-/// IPv6. Of other bytes it is 0.
+/// The network of an address as a number: the first 24 bits of the four bytes of IPv4, above all of IPv6; or the first
+/// 56 of the sixteen of IPv6. Of other bytes it is 0.
 fn network(address: &[u8]) -> u64
     ensures { result ≡ network_of address.now }
 {

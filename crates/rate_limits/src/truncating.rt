@@ -5,7 +5,8 @@ ghost use Rattle.rate_limits.specs.Truncating.{IsQuestion, IsTruncated, with_tru
 
 use std::alloc::{AllocError, Global};
 
-/// How many bytes of these a question takes that stands at their front (RFC 1035 section 4.1.2), with a name that is not compressed.
+/// How many bytes of these a question takes that stands at their front (RFC 1035 section 4.1.2), with a name that is
+/// not compressed.
 fn question_len(bytes: &[u8]) -> Option<usize>
     ensures question { IfSome result (λ len. IsQuestion (take len bytes.now)) }
     ensures within { IfSome result (λ len. len ≤ length bytes.now) }
@@ -39,8 +40,8 @@ fn with_truncation(flags: u8) -> u8
     if flags / 2 % 2 == 1 { flags } else { flags + 2 }
 }
 
-/// The header and the first question of a reply alone, with TC. `None` where it begins with no header and question. An error says that
-/// memory was refused.
+/// The header and the first question of a reply alone, with TC. `None` where it begins with no header and question. An
+/// error says that memory was refused.
 pub fn truncated(alloc: Global, reply: &[u8]) -> Result<Option<Vec<u8>>, AllocError>
     ensures { IfOk result (λ bytes. IfSome bytes (λ it. IsTruncated reply.now it.items)) }
 {

@@ -11,7 +11,7 @@ use Rattle.wire_names.specs.rr.domain.DomainName.{DomainName}
 use Rattle.text_words.specs.declared.words.Word.{Word}
 use Rattle.record_text.specs.declared.data.field.Field.TheVariants as field
 use Rattle.record_text.specs.RecordText.{IsField}
-use Rattle.record_text.specs.RecordText.IsField.{ipv4, ipv6}
+use Rattle.record_text.specs.RecordText.IsField.{ipv4, ipv6, in_digits}
 use Rattle.record_printing.specs.Printed.Printed.{plain}
 use Rattle.record_printing.specs.PrintedData.{IsPrintedField, PutsField}
 use Rattle.record_printing.proofs.PrintedFields.{plain_word}
@@ -20,6 +20,7 @@ use Rattle.record_printing.proofs.Spelled.{simple_plain}
 
 only_ipv4 : (origin : Option DomainName) (w : Word) (others : List ℕ) (address : Ipv4Addr) → IsIpv4Text w.bytes.now address → IsField origin field.Ipv4 w others → others ≡ ipv4_octets address
 only_ipv4 origin w others address is (ipv4 {address = b} p i) = ap (λ (x : Ipv4Addr). ipv4_octets x) (IsIpv4Text_unique w.bytes.now b address i is)
+only_ipv4 origin w others address is (in_digits p i) = elim i [ ]
 
 pub put_ipv4_field : (address : Ipv4Addr) (octets before after : List ℕ) → length octets ≡ 4 → ((k : ℕ) → get_or octets k 0 < 256) → ipv4_octets address ≡ octets → after ≡ before ++ 32 ∷ ipv4_text (ipv4_octets address) → PutsField field.Ipv4 octets before after
 put_ipv4_field address octets before after four small is put =
@@ -37,6 +38,7 @@ put_ipv4_field address octets before after four small is put =
 
 only_ipv6 : (origin : Option DomainName) (w : Word) (others : List ℕ) (address : Ipv6Addr) → IsIpv6Text w.bytes.now address → IsField origin field.Ipv6 w others → others ≡ ipv6_octets address
 only_ipv6 origin w others address is (ipv6 {address = b} p i) = ap (λ (x : Ipv6Addr). ipv6_octets x) (IsIpv6Text_unique w.bytes.now b address i is)
+only_ipv6 origin w others address is (in_digits p i) = elim i [ ]
 
 pub put_ipv6_field : (address : Ipv6Addr) (octets before after : List ℕ) → length octets ≡ 16 → ((k : ℕ) → get_or octets k 0 < 256) → ipv6_segments address ≡ segments_of octets → after ≡ before ++ 32 ∷ ipv6_text (ipv6_segments address) → PutsField field.Ipv6 octets before after
 put_ipv6_field address octets before after long small is put =

@@ -18,7 +18,7 @@ use Rattle.record_text.specs.declared.data.field.Field.TheVariants as field
 use Rattle.record_text.specs.declared.data.field.Rest.TheVariants as kind
 use Rattle.record_text.specs.RecordText.{ArePlain, AreStrings, IsBase64, IsField, IsRest, bytes_of}
 use Rattle.record_text.specs.RecordText.AreStrings.{none as no_strings, more as one_string}
-use Rattle.record_text.specs.RecordText.IsField.{string}
+use Rattle.record_text.specs.RecordText.IsField.{string, in_digits}
 use Rattle.record_text.specs.RecordText.IsRest.{nothing, strings, hex, base64}
 use Rattle.record_printing.specs.Printed.{ArePrinted, Printed, line_of, text_of}
 use Rattle.record_printing.specs.Printed.Printed.{plain}
@@ -41,6 +41,7 @@ pub data ArePrintedStrings : List Printed → List ℕ → Type 0 where
 
 string_of : (origin : Option DomainName) (w : Word) (octets : List ℕ) → IsField origin field.String w octets → IsString w octets
 string_of origin w octets (string is) = is
+string_of origin w octets (in_digits p i) = elim i [ ]
 
 strings_are : {printed : List Printed} {octets : List ℕ} → ArePrintedStrings printed octets → (words : List Word) → ArePrinted printed words → AreStrings words octets
 strings_are none words h = subst (λ (ws : List Word). AreStrings ws []) (no_word words h) no_strings

@@ -30,7 +30,7 @@ use Rattle.record_text.specs.Mnemonics.{NamedNumber, mnemonics}
 use Rattle.record_text.specs.Moments.{SpellsMoment}
 use Rattle.record_text.specs.Moments.SpellsMoment.{date as moment_date, seconds as moment_seconds}
 use Rattle.record_text.specs.RecordText.{IsField, IsNamed}
-use Rattle.record_text.specs.RecordText.IsField.{number8, number16, number32, named8, unnamed8, named16, unnamed16, time, name, string, moment, text as text_is}
+use Rattle.record_text.specs.RecordText.IsField.{number8, number16, number32, named8, unnamed8, named16, unnamed16, time, name, string, moment, text as text_is, in_digits}
 use Rattle.record_printing.specs.Printed.{IsPlain, Printed, line_of, text_of}
 use Rattle.record_printing.specs.Printed.Printed.{plain, quoted}
 use Rattle.record_printing.specs.PrintedData.{ArePrintedFields, IsFormWord, IsPrintedField, IsWordByte, PutsField, PutsNumber, PutsWords}
@@ -111,23 +111,29 @@ no_mnemonic kind text k n e small (j, m, below, at, named) =
 module _ (origin : Option DomainName) (w : Word) (k : ℕ) (e : w.bytes.now ≡ decimal k) (small : k < 2 ^ 32) where
   only_number8 : (others : List ℕ) → IsField origin field.Number8 w others → others ≡ k ∷ []
   only_number8 others (number8 {n = n} p i s) = ap (λ (m : ℕ). m ∷ []) (same_number w.bytes.now k n e small i)
+  only_number8 others (in_digits p i) = elim i [ ]
 
   only_number16 : (others : List ℕ) → IsField origin field.Number16 w others → others ≡ to_be_bytes w16 k
   only_number16 others (number16 {n = n} p i s) = ap (λ (m : ℕ). to_be_bytes w16 m) (same_number w.bytes.now k n e small i)
+  only_number16 others (in_digits p i) = elim i [ ]
 
   only_number32 : (others : List ℕ) → IsField origin field.Number32 w others → others ≡ to_be_bytes w32 k
   only_number32 others (number32 {n = n} p i s) = ap (λ (m : ℕ). to_be_bytes w32 m) (same_number w.bytes.now k n e small i)
+  only_number32 others (in_digits p i) = elim i [ ]
 
   only_named8 : (kind : Names) (others : List ℕ) → IsField origin (field.Named8 kind) w others → others ≡ k ∷ []
   only_named8 kind others (named8 {n = n} p i) = absurd (no_mnemonic kind w.bytes.now k n e small i)
   only_named8 kind others (unnamed8 {n = n} p i s) = ap (λ (m : ℕ). m ∷ []) (same_number w.bytes.now k n e small i)
+  only_named8 kind others (in_digits p i) = elim i [ ]
 
   only_named16 : (kind : Names) (others : List ℕ) → IsField origin (field.Named16 kind) w others → others ≡ to_be_bytes w16 k
   only_named16 kind others (named16 {n = n} p i) = absurd (no_mnemonic kind w.bytes.now k n e small i)
   only_named16 kind others (unnamed16 {n = n} p i s) = ap (λ (m : ℕ). to_be_bytes w16 m) (same_number w.bytes.now k n e small i)
+  only_named16 kind others (in_digits p i) = elim i [ ]
 
   only_time : (others : List ℕ) → IsField origin field.Time w others → others ≡ to_be_bytes w32 k
   only_time others (time {n = n} p i s) = ap (λ (m : ℕ). to_be_bytes w32 m) (times_once w.bytes.now n k i (seconds (number_here w.bytes.now k e small)))
+  only_time others (in_digits p i) = elim i [ ]
 
 module _ (k : ℕ) where
   number8_field : k < 2 ^ 8 → IsPrintedField field.Number8 (plain (decimal k)) (k ∷ [])
@@ -154,6 +160,7 @@ name_here origin text labels h e = subst (λ (t : List ℕ). SpellsName origin t
 
 only_name : (origin : Option DomainName) (w : Word) (others : List ℕ) (labels : List (List ℕ)) → AreByteLabels labels → w.bytes.now ≡ name_text labels → IsField origin field.Name w others → others ≡ name_octets labels
 only_name origin w others labels h e (name {labels = ms} p i s) = ap (λ (l : List (List ℕ)). name_octets l) (names_once origin w.bytes.now ms labels i (name_here origin w.bytes.now labels h e))
+only_name origin w others labels h e (in_digits p i) = elim i [ ]
 
 pub put_name : (labels : List (List ℕ)) (octets before after : List ℕ) → AreByteLabels labels → name_len labels ≤ 255 → octets ≡ name_octets labels → after ≡ before ++ 32 ∷ name_text labels → PutsField field.Name octets before after
 put_name labels octets before after h short is put = (
@@ -175,6 +182,7 @@ string_here w bytes h short e = record { bytes = bytes; spelled = bytes_here w.b
 
 only_string : (origin : Option DomainName) (w : Word) (others bytes : List ℕ) → AreBytes bytes → length bytes < 256 → w.bytes.now ≡ bytes_text true bytes → IsField origin field.String w others → others ≡ character_string bytes
 only_string origin w others bytes h short e (string i) = strings_once w others (character_string bytes) i (string_here w bytes h short e)
+only_string origin w others bytes h short e (in_digits p i) = elim i [ ]
 
 pub put_string : (bytes octets before after : List ℕ) → AreBytes bytes → length bytes < 256 → octets ≡ character_string bytes → after ≡ before ++ 32 ∷ 34 ∷ (bytes_text true bytes ++ 34 ∷ []) → PutsField field.String octets before after
 put_string bytes octets before after h short is put = (
@@ -189,6 +197,7 @@ put_string bytes octets before after h short is put = (
 
 only_text : (origin : Option DomainName) (w : Word) (others bytes : List ℕ) → AreBytes bytes → w.bytes.now ≡ bytes_text true bytes → IsField origin field.Text w others → others ≡ bytes
 only_text origin w others bytes h e (text_is i) = bytes_once w.bytes.now others bytes i (bytes_here w.bytes.now bytes h e)
+only_text origin w others bytes h e (in_digits p i) = elim i [ ]
 
 pub put_text : (bytes octets before after : List ℕ) → AreBytes bytes → octets ≡ bytes → after ≡ before ++ 32 ∷ 34 ∷ (bytes_text true bytes ++ 34 ∷ []) → PutsField field.Text octets before after
 put_text bytes octets before after h is put = (
@@ -202,13 +211,12 @@ put_text bytes octets before after h is put = (
 )
 
 -- a printed number, as each field of its size
-put_as : (octets before after : List ℕ) (len : ℕ) (form : ℕ → List ℕ) (size limit : ℕ) (kind : Field) → limit ≤ 2 ^ 32 → ((k : ℕ) → k < limit → IsPrintedField kind (plain (decimal k)) (form k))
-    → PutsNumber form size limit octets before after len → (len ≤ length octets) × PutsField kind (take len octets) before after
-put_as octets before after len form size limit kind few one h =
-    let here : take len octets ≡ form h.number = ap (λ (n : ℕ). take n octets) h.sized ∙ h.is in (
-      omega (arith, h.sized, h.within),
-      (plain (decimal h.number), h.put, number_word h.number (omega (arith, h.small, few)), subst (λ (o : List ℕ). IsPrintedField kind (plain (decimal h.number)) o) (sym here) (one h.number h.small)),
-    )
+put_as : (octets before after : List ℕ) (len : ℕ) (form : ℕ → List ℕ) (limit : ℕ) (kind : Field) → limit ≤ 2 ^ 32 → ((k : ℕ) → k < limit → IsPrintedField kind (plain (decimal k)) (form k))
+    → PutsNumber form limit octets before after len → (len ≤ length octets) × PutsField kind (take len octets) before after
+put_as octets before after len form limit kind few one h = (
+  h.within,
+  (plain (decimal h.number), h.put, number_word h.number (omega (arith, h.small, few)), subst (λ (o : List ℕ). IsPrintedField kind (plain (decimal h.number)) o) (sym h.is) (one h.number h.small)),
+)
 
 pub map_ok : {T E P Q : Type 0} (r : Result T E) → (P → Q) → OnOk r P → OnOk r Q
 map_ok (Ok t) f h = f h
@@ -224,23 +232,23 @@ abbrev pub Puts : Field → List ℕ → List ℕ → List ℕ → Result (Optio
 Puts kind octets before after r = IfOk r (λ (len : Option ℕ). IfSome len (λ (n : ℕ). (n ≤ length octets) × PutsField kind (take n octets) before after))
 
 module _ (octets before after : List ℕ) (r : Result (Option ℕ) AllocError) where
-  pub as_number8 : IfOk r (λ len. IfSome len (PutsNumber (λ n. n ∷ []) 1 (2 ^ 8) octets before after)) → Puts field.Number8 octets before after r
-  as_number8 h = map_put r (λ n. put_as octets before after n (λ k. k ∷ []) 1 (2 ^ 8) field.Number8 (omega arith) number8_field) h
+  pub as_number8 : IfOk r (λ len. IfSome len (PutsNumber (λ n. n ∷ []) (2 ^ 8) octets before after)) → Puts field.Number8 octets before after r
+  as_number8 h = map_put r (λ n. put_as octets before after n (λ k. k ∷ []) (2 ^ 8) field.Number8 (omega arith) number8_field) h
 
-  pub as_named8 : (kind : Names) → IfOk r (λ len. IfSome len (PutsNumber (λ n. n ∷ []) 1 (2 ^ 8) octets before after)) → Puts (field.Named8 kind) octets before after r
-  as_named8 kind h = map_put r (λ n. put_as octets before after n (λ k. k ∷ []) 1 (2 ^ 8) (field.Named8 kind) (omega arith) (λ k. named8_field k kind)) h
+  pub as_named8 : (kind : Names) → IfOk r (λ len. IfSome len (PutsNumber (λ n. n ∷ []) (2 ^ 8) octets before after)) → Puts (field.Named8 kind) octets before after r
+  as_named8 kind h = map_put r (λ n. put_as octets before after n (λ k. k ∷ []) (2 ^ 8) (field.Named8 kind) (omega arith) (λ k. named8_field k kind)) h
 
-  pub as_number16 : IfOk r (λ len. IfSome len (PutsNumber (to_be_bytes w16) 2 (2 ^ 16) octets before after)) → Puts field.Number16 octets before after r
-  as_number16 h = map_put r (λ n. put_as octets before after n (to_be_bytes w16) 2 (2 ^ 16) field.Number16 (omega arith) number16_field) h
+  pub as_number16 : IfOk r (λ len. IfSome len (PutsNumber (to_be_bytes w16) (2 ^ 16) octets before after)) → Puts field.Number16 octets before after r
+  as_number16 h = map_put r (λ n. put_as octets before after n (to_be_bytes w16) (2 ^ 16) field.Number16 (omega arith) number16_field) h
 
-  pub as_named16 : (kind : Names) → IfOk r (λ len. IfSome len (PutsNumber (to_be_bytes w16) 2 (2 ^ 16) octets before after)) → Puts (field.Named16 kind) octets before after r
-  as_named16 kind h = map_put r (λ n. put_as octets before after n (to_be_bytes w16) 2 (2 ^ 16) (field.Named16 kind) (omega arith) (λ k. named16_field k kind)) h
+  pub as_named16 : (kind : Names) → IfOk r (λ len. IfSome len (PutsNumber (to_be_bytes w16) (2 ^ 16) octets before after)) → Puts (field.Named16 kind) octets before after r
+  as_named16 kind h = map_put r (λ n. put_as octets before after n (to_be_bytes w16) (2 ^ 16) (field.Named16 kind) (omega arith) (λ k. named16_field k kind)) h
 
-  pub as_number32 : IfOk r (λ len. IfSome len (PutsNumber (to_be_bytes w32) 4 (2 ^ 32) octets before after)) → Puts field.Number32 octets before after r
-  as_number32 h = map_put r (λ n. put_as octets before after n (to_be_bytes w32) 4 (2 ^ 32) field.Number32 (omega arith) number32_field) h
+  pub as_number32 : IfOk r (λ len. IfSome len (PutsNumber (to_be_bytes w32) (2 ^ 32) octets before after)) → Puts field.Number32 octets before after r
+  as_number32 h = map_put r (λ n. put_as octets before after n (to_be_bytes w32) (2 ^ 32) field.Number32 (omega arith) number32_field) h
 
-  pub as_time : IfOk r (λ len. IfSome len (PutsNumber (to_be_bytes w32) 4 (2 ^ 32) octets before after)) → Puts field.Time octets before after r
-  as_time h = map_put r (λ n. put_as octets before after n (to_be_bytes w32) 4 (2 ^ 32) field.Time (omega arith) time_field) h
+  pub as_time : IfOk r (λ len. IfSome len (PutsNumber (to_be_bytes w32) (2 ^ 32) octets before after)) → Puts field.Time octets before after r
+  as_time h = map_put r (λ n. put_as octets before after n (to_be_bytes w32) (2 ^ 32) field.Time (omega arith) time_field) h
 
 -- a string, its length before it, at the front of octets
 pub string_front : (all piece before after : List ℕ) (len : ℕ) → AreBytes all → 1 ≤ length all → len ≡ get_or all 0 0 → len ≤ length (take (length all - 1) (drop 1 all)) → piece ≡ take len (take (length all - 1) (drop 1 all))
@@ -312,12 +320,13 @@ same_moment written k n e small (moment_seconds other is few) = same_number writ
 
 only_moment : (origin : Option DomainName) (w : Word) (others : List ℕ) (k : ℕ) → w.bytes.now ≡ decimal k → k < 2 ^ 32 → IsField origin field.Moment w others → others ≡ to_be_bytes w32 k
 only_moment origin w others k e small (moment {n = n} p i) = ap (λ (m : ℕ). to_be_bytes w32 m) (same_moment w.bytes.now k n e small i)
+only_moment origin w others k e small (in_digits p i) = elim i [ ]
 
 moment_field : (k : ℕ) → k < 2 ^ 32 → IsPrintedField field.Moment (plain (decimal k)) (to_be_bytes w32 k)
 moment_field k small = record { is = λ origin w p. moment p.0 (moment_here w.bytes.now k p.1 small); only = λ origin w others p f. only_moment origin w others k p.1 small f }
 
-pub as_moment : (octets before after : List ℕ) (r : Result (Option ℕ) AllocError) → IfOk r (λ len. IfSome len (PutsNumber (to_be_bytes w32) 4 (2 ^ 32) octets before after)) → Puts field.Moment octets before after r
-as_moment octets before after r h = map_put r (λ n. put_as octets before after n (to_be_bytes w32) 4 (2 ^ 32) field.Moment (omega arith) moment_field) h
+pub as_moment : (octets before after : List ℕ) (r : Result (Option ℕ) AllocError) → IfOk r (λ len. IfSome len (PutsNumber (to_be_bytes w32) (2 ^ 32) octets before after)) → Puts field.Moment octets before after r
+as_moment octets before after r h = map_put r (λ n. put_as octets before after n (to_be_bytes w32) (2 ^ 32) field.Moment (omega arith) moment_field) h
 
 -- letters and digits stand for themselves
 word_byte : (b : ℕ) → IsWordByte b → (is_special true b ≡ false) × (is_plain true b ≡ true) × IsSimple b

@@ -6,7 +6,7 @@ use Rattle.std.proofs.lemmas.Bool.Decides.{nat_tests}
 use Rattle.text_words.specs.declared.words.TextKind.{TextKind}
 use Rattle.text_words.specs.declared.words.TextKind.TheVariants.{Line, ZoneFile}
 use Rattle.text_words.specs.declared.words.Word.{Word}
-use Rattle.text_words.specs.Words.{AreWords, AreWordsTo, EndsAt, IsByteAt, IsGap, IsPlainWord, IsQuotedWord, IsRun, IsWordFrom, cut_of, ends_quoted, ends_word, is_blank}
+use Rattle.text_words.specs.Words.{AreWords, AreWordsTo, EndsAt, IsByteAt, IsGap, IsPlainWord, IsQuotedWord, IsRun, IsWordFrom, cut_of, ends_quoted, ends_word, is_blank, words_left}
 use Rattle.text_words.specs.Words.IsRun.{nothing as no_run, bare as run_bare, escaped as run_escaped}
 use Rattle.text_words.specs.Words.IsGap.{nothing as no_gap, more as one_gap}
 use Rattle.text_words.specs.Words.IsPiece.{blank}
@@ -134,7 +134,7 @@ quoted_stands text before bytes rest is e =
 record StandsHere (kind : TextKind) (text before rest : List ℕ) (p : Printed) : Type 0 where
   pub word : Word
   pub printed : IsPrinted p word
-  pub from : IsWordFrom kind text (length before) 0 word (length (before ++ text_of p)) 0
+  pub from : IsWordFrom (words_left kind text (length before) 0) word (length (before ++ text_of p)) 0
 
 -- a printed word stands behind its space
 word_stands : (kind : TextKind) (text before rest : List ℕ) (p : Printed) → IsSound p → text ≡ before ++ (text_of p ++ rest) → Parted rest → StandsHere kind text before rest p
@@ -163,7 +163,7 @@ word_stands kind text before rest (quoted bytes) sound e parted =
 record AllStand (kind : TextKind) (text before : List ℕ) (place : ℕ) (front : List Word) (printed : List Printed) : Type 0 where
   pub words : List Word
   pub are : ArePrinted printed words
-  pub stand : AreWords kind text place 0 (front ++ words) (length (before ++ line_of printed)) 0
+  pub stand : AreWords (words_left kind text place 0) (front ++ words) (length (before ++ line_of printed)) 0
 
 parted_line : (printed : List Printed) (rest : List ℕ) → Parted rest → Parted (line_of printed ++ rest)
 parted_line [] rest parted = parted
@@ -171,11 +171,11 @@ parted_line (plain bytes ∷ printed) rest parted = inr (32, (bytes ++ line_of p
 parted_line (quoted bytes ∷ printed) rest parted = inr (32, 34 ∷ (((bytes ++ 34 ∷ []) ++ line_of printed) ++ rest), refl, refl)
 
 words_stand : (kind : TextKind) (text before rest : List ℕ) (place : ℕ) (front : List Word) (printed : List Printed) → All IsSound printed → text ≡ before ++ (line_of printed ++ rest) → Parted rest
-    → AreWords kind text place 0 front (length before) 0 → AllStand kind text before place front printed
+    → AreWords (words_left kind text place 0) front (length before) 0 → AllStand kind text before place front printed
 words_stand kind text before rest place front [] sound e parted stand = record {
   words = [];
   are = tt;
-  stand = subst (λ (ws : List Word). AreWords kind text place 0 ws (length (before ++ [])) 0) (sym (append-nil front)) (subst (λ (t : List ℕ). AreWords kind text place 0 front (length t) 0) (sym (append-nil before)) stand);
+  stand = subst (λ (ws : List Word). AreWords (words_left kind text place 0) ws (length (before ++ [])) 0) (sym (append-nil front)) (subst (λ (t : List ℕ). AreWords (words_left kind text place 0) front (length t) 0) (sym (append-nil before)) stand);
 }
 words_stand kind text before rest place front (p ∷ printed) sound e parted stand =
     let whole : text ≡ before ++ (text_of p ++ (line_of printed ++ rest)) = e ∙ ap (λ (t : List ℕ). before ++ t) (append_assoc (text_of p) (line_of printed) rest) in
@@ -185,8 +185,8 @@ words_stand kind text before rest place front (p ∷ printed) sound e parted sta
     record {
       words = one.word ∷ others.words;
       are = (one.printed, others.are);
-      stand = subst (λ (ws : List Word). AreWords kind text place 0 ws (length (before ++ (text_of p ++ line_of printed))) 0) (append_assoc front (one.word ∷ []) others.words)
-          (subst (λ (t : List ℕ). AreWords kind text place 0 ((front ++ one.word ∷ []) ++ others.words) (length t) 0) (append_assoc before (text_of p) (line_of printed)) others.stand);
+      stand = subst (λ (ws : List Word). AreWords (words_left kind text place 0) ws (length (before ++ (text_of p ++ line_of printed))) 0) (append_assoc front (one.word ∷ []) others.words)
+          (subst (λ (t : List ℕ). AreWords (words_left kind text place 0) ((front ++ one.word ∷ []) ++ others.words) (length t) 0) (append_assoc before (text_of p) (line_of printed)) others.stand);
     }
 
 parted_end : (kind : TextKind) (behind : List ℕ) → EndsHere kind behind → Parted behind
@@ -210,7 +210,7 @@ stand kind before behind printed ends sound =
       record {
         next = length before + length (line_of printed);
         next_depth = 0;
-        front = subst (λ (n : ℕ). AreWords kind text (length before) 0 all.words n 0) long all.stand;
+        front = subst (λ (n : ℕ). AreWords (words_left kind text (length before) 0) all.words n 0) long all.stand;
         last = record {
           gap = no_gap;
           within = omega (arith, long, length-append (before ++ line_of printed) behind);

@@ -7,7 +7,7 @@ use Rattle.wire_names.specs.rr.domain.DomainName.{DomainName}
 use Rattle.text_words.specs.declared.words.Word.{Word}
 use Rattle.record_text.specs.declared.data.field.Field.TheVariants as field
 use Rattle.record_text.specs.RecordText.{IsField, SpellsType}
-use Rattle.record_text.specs.RecordText.IsField.{type}
+use Rattle.record_text.specs.RecordText.IsField.{type, in_digits}
 use Rattle.record_text.specs.RecordText.SpellsType.{mnemonic, numbered}
 use Rattle.record_text.specs.TypeTable.{TypeRow, row_of, rows}
 use Rattle.record_text.proofs.TypesOnce.{types_once}
@@ -71,6 +71,7 @@ put_numbered number before after small put =
 
 only_type : (origin : Option DomainName) (w : Word) (others text : List ℕ) (number : ℕ) → SpellsType text number → w.bytes.now ≡ text → IsField origin field.RecordType w others → others ≡ to_be_bytes w16 number
 only_type origin w others text number is e (type {number = n} p i) = ap (λ (m : ℕ). to_be_bytes w16 m) (types_once w.bytes.now n number i (subst (λ (t : List ℕ). SpellsType t number) (sym e) is))
+only_type origin w others text number is e (in_digits p i) = elim i [ ]
 
 pub put_type_field : (number : ℕ) (octets before after : List ℕ) → octets ≡ to_be_bytes w16 number → PutsType number before after → PutsField field.RecordType octets before after
 put_type_field number octets before after is (text, put, good, spelled) = (

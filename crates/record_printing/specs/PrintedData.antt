@@ -1,4 +1,5 @@
--- Words that are printed for the data of records, each of which spells its octets and no others (RFC 1035 section 5.1, RFC 3597 section 5).
+-- Words that are printed for the data of records, each of which spells its octets and no others (RFC 1035 section 5.1,
+-- RFC 3597 section 5).
 use Rattle.std.specs.Prelude.{◌≡◌, ◌≢◌, ◌⊎◌, ℕ, ◌<◌, ◌≤◌, ◌==◌, if◌then◌else◌, codes, List, [], ◌∷◌, ◌++◌, length, take, All, Option, Some, Ok, IfSome, decimal}
 use Rattle.std.specs.Int.{IsInRange}
 use Rattle.hex.specs.Hex.{decode_of}
@@ -10,6 +11,7 @@ use Rattle.wire_messages.specs.serialize.writing.FullForm.{data_octets}
 use Rattle.wire_names.specs.text.TextForm.{spelled_name}
 use Rattle.text_words.specs.declared.words.TextKind.{TextKind}
 use Rattle.text_words.specs.declared.words.Word.{Word}
+use Rattle.text_words.specs.Words.{words_left}
 use Rattle.record_text.specs.declared.data.field.Field.{Field}
 use Rattle.record_text.specs.declared.data.field.Rest.{Rest}
 use Rattle.record_text.specs.RecordText.{HasData, IsField, IsRest, SpellsType}
@@ -55,7 +57,8 @@ pub data AreDigits : List Printed → List ℕ → Type 0 where
   none : AreDigits [] []
   digits : {text octets : List ℕ} → IsSound (plain text) → decode_of text ≡ Ok octets → AreDigits (plain text ∷ []) octets
 
--- Printed words for data of a type: in the form of its row, or in the form that is one for all, `\#`, how many octets there are, and their digits.
+-- Printed words for data of a type: in the form of its row, or in the form that is one for all, `\#`, how many octets
+-- there are, and their digits.
 pub data ArePrintedData (number : ℕ) : List Printed → List ℕ → Type 0 where
   in_form : {row : TypeRow} {printed : List Printed} {octets : List ℕ} → row_of number ≡ Some row → IsPrintedRow row printed octets → ArePrintedData number printed octets
   generic : {digits : List Printed} {octets : List ℕ} → AreDigits digits octets → ArePrintedData number (plain (92 ∷ 35 ∷ []) ∷ plain (decimal (length octets)) ∷ digits) octets
@@ -70,12 +73,11 @@ PutsText Is before after = (text : List ℕ) × (after ≡ before ++ text) × Is
 abbrev pub PutsField : Field → List ℕ → List ℕ → List ℕ → Type 0
 PutsField field octets before after = (p : Printed) × (after ≡ before ++ text_of p) × IsFormWord p × IsPrintedField field p octets
 
--- A number below a limit stands at the front of data, and is printed: a field of so many octets.
-pub record PutsNumber (form : ℕ → List ℕ) (size limit : ℕ) (octets before after : List ℕ) (len : ℕ) : Type 0 where
+-- A number below a limit stands at the front of data in this form, and is printed: a field of so many octets.
+pub record PutsNumber (form : ℕ → List ℕ) (limit : ℕ) (octets before after : List ℕ) (len : ℕ) : Type 0 where
   pub number : ℕ
-  pub sized : len ≡ size
-  pub within : size ≤ length octets
-  pub is : take size octets ≡ form number
+  pub within : len ≤ length octets
+  pub is : take len octets ≡ form number
   pub small : number < limit
   pub put : after ≡ before ++ 32 ∷ decimal number
 
@@ -106,11 +108,11 @@ class_text number = if number == 1 then codes "IN" else codes "CLASS" ++ decimal
 abbrev pub PutsClass : ℕ → List ℕ → List ℕ → Type 0
 PutsClass number before after = after ≡ before ++ 32 ∷ class_text number
 
--- The text of data: behind whatever text it stands, in a line or at the end of a line of a zone file, and whatever the origin, the words there to the end are
--- these data, and no other data of their type than such of the same octets.
+-- The text of data: behind whatever text it stands, in a line or at the end of a line of a zone file, and whatever the
+-- origin, the words there to the end are these data, and no other data of their type than such of the same octets.
 pub record IsTextOf (rdata : RData) (text : List ℕ) : Type 0 where
-  pub stands : (origin : Option DomainName) (kind : TextKind) (before behind : List ℕ) → EndsHere kind behind → HasData origin (type_of rdata) kind (before ++ text ++ behind) (length before) 0 rdata
-  pub only : (origin : Option DomainName) (kind : TextKind) (before behind : List ℕ) (other : RData) → EndsHere kind behind → HasData origin (type_of rdata) kind (before ++ text ++ behind) (length before) 0 other
+  pub stands : (origin : Option DomainName) (kind : TextKind) (before behind : List ℕ) → EndsHere kind behind → HasData origin (type_of rdata) (words_left kind (before ++ text ++ behind) (length before) 0) rdata
+  pub only : (origin : Option DomainName) (kind : TextKind) (before behind : List ℕ) (other : RData) → EndsHere kind behind → HasData origin (type_of rdata) (words_left kind (before ++ text ++ behind) (length before) 0) other
       → data_octets other ≡ data_octets rdata
 
 -- The text of a record as a line of a zone file: its owner name, its TTL, its class, its type and its data.

@@ -136,8 +136,8 @@ fn byte_count(octets: &[u8]) -> usize
     octets.len()
 }
 
-/// Whether data are such as a record is read with: names are fully qualified, fields hold their numbers and lengths, and bytes alone are data only of
-/// types that have no other form.
+/// Whether data are such as a record is read with: names are fully qualified, fields hold their numbers and lengths,
+/// and bytes alone are data only of types that have no other form.
 fn is_formed(rdata: &RData) -> bool
     ensures formed { IsTrue result → IsFormed rdata.now }
     ensures other { IsFalse result → ¬ (IsFormed rdata.now) }
@@ -169,7 +169,8 @@ fn form_text(
     record_type: RecordType,
     data: &[u8],
 ) -> Result<Option<String>, AllocError>
-    ensures { IfOk result (λ text. IfSome text (λ it. PutsWords (λ printed. ArePrintedData record_type printed «data».now) [] (string_bytes it))) }
+    ensures { IfOk result (λ text.
+        IfSome text (λ it. PutsWords (λ printed. ArePrintedData record_type printed «data».now) [] (string_bytes it))) }
 {
     let Some(row) = row_of(record_type.value()) else {
         return Ok(None);
@@ -193,7 +194,8 @@ fn put_octets(
     out: &mut String,
 ) -> Result<(), AllocError>
     requires { length «data».now < 2 ^ 16 }
-    ensures { OnOk result (PutsWords (λ printed. ArePrintedData record_type printed «data».now) (string_bytes out.old) (string_bytes out.new)) }
+    ensures { OnOk result (PutsWords (λ printed. ArePrintedData record_type printed «data».now) (string_bytes out.old)
+        (string_bytes out.new)) }
 {
     match form_text(alloc, record_type, data)? {
         Some(text) => out.push_str(text.as_str()),
@@ -201,15 +203,18 @@ fn put_octets(
     }
 }
 
-/// Puts the data of a record behind text, a space before each word (RFC 1035 section 5.1): in the form of their type, or in the form that is one for
-/// all types, `\#`, their length and hexadecimal digits (RFC 3597 section 5), where the type has none that is printed or the data are not in it.
+/// Puts the data of a record behind text, a space before each word (RFC 1035 section 5.1): in the form of their type,
+/// or in the form that is one for all types, `\#`, their length and hexadecimal digits (RFC 3597 section 5), where the
+/// type has none that is printed or the data are not in it.
 ///
-/// Printed are forms of numbers, times, names, character strings, addresses and types, and behind these of hexadecimal digits or base 64; moments are
-/// their seconds since 1970. In the form that is one for all stand data with a salt, a hash, sets of types, EUI-48 and EUI-64, identifiers and locators of
-/// nodes, NSAP addresses, service parameters, ports, address prefixes, gateways, relays, the identity of a host, or a location.
+/// Printed are forms of numbers, times, names, character strings, addresses and types, and behind these of hexadecimal
+/// digits or base 64; moments are their seconds since 1970. In the form that is one for all stand data with a salt, a
+/// hash, sets of types, EUI-48 and EUI-64, identifiers and locators of nodes, NSAP addresses, service parameters,
+/// ports, address prefixes, gateways, relays, the identity of a host, or a location.
 ///
-/// Behind whatever text they stand, the words read as these data, with any origin, in a line and in a zone file, and as no other data of the type but such
-/// of the same octets. Data that no record is read with are refused, and data of more than 65,535 bytes. Behind an error, some text may have been put.
+/// Behind whatever text they stand, the words read as these data, with any origin, in a line and in a zone file, and as
+/// no other data of the type but such of the same octets. Data that no record is read with are refused, and data of
+/// more than 65,535 bytes. Behind an error, some text may have been put.
 pub fn put_record_data(alloc: Global, rdata: &RData, out: &mut String) -> Result<(), PrintError>
     ensures put { OnOk result (PutsText (IsTextOf rdata.now) (string_bytes out.old) (string_bytes out.new)) }
     ensures wrong { IfErr result (λ e. e ≡ WrongForm → ¬ (IsFormed rdata.now)) }

@@ -12,7 +12,8 @@ pub enum PrintError {
     /// Memory was refused.
     #[error("out of memory")]
     Memory,
-    /// The data are none that a record is read with: a name in them is not fully qualified, or they are bytes in place of the form that their type has.
+    /// The data are none that a record is read with: a name in them is not fully qualified, or they are bytes in place
+    /// of the form that their type has.
     #[error("the data are not in the form of their type")]
     WrongForm,
     /// The data have more than 65,535 bytes, so that no length tells them (RFC 1035 section 3.2.1).

@@ -21,7 +21,8 @@ const MAX_LABELS_LEN: usize = 254;
 
 /// Puts a number of 8 bits.
 fn put_number8(data: &[u8], out: &mut String) -> Result<Option<usize>, AllocError>
-    ensures { IfOk result (λ len. IfSome len (PutsNumber (λ n. n ∷ []) 1 (2 ^ 8) «data».now (string_bytes out.old) (string_bytes out.new))) }
+    ensures { IfOk result (λ len. IfSome len
+        (PutsNumber (λ n. n ∷ []) (2 ^ 8) «data».now (string_bytes out.old) (string_bytes out.new))) }
 {
     let [number, ..] = data else {
         return Ok(None);
@@ -32,7 +33,8 @@ fn put_number8(data: &[u8], out: &mut String) -> Result<Option<usize>, AllocErro
 
 /// Puts a number of 16 bits.
 fn put_number16(data: &[u8], out: &mut String) -> Result<Option<usize>, AllocError>
-    ensures { IfOk result (λ len. IfSome len (PutsNumber (to_be_bytes w16) 2 (2 ^ 16) «data».now (string_bytes out.old) (string_bytes out.new))) }
+    ensures { IfOk result (λ len. IfSome len
+        (PutsNumber (to_be_bytes w16) (2 ^ 16) «data».now (string_bytes out.old) (string_bytes out.new))) }
 {
     let Some(octets) = data.first_chunk::<2>() else {
         return Ok(None);
@@ -43,7 +45,8 @@ fn put_number16(data: &[u8], out: &mut String) -> Result<Option<usize>, AllocErr
 
 /// Puts a number of 32 bits.
 fn put_number32(data: &[u8], out: &mut String) -> Result<Option<usize>, AllocError>
-    ensures { IfOk result (λ len. IfSome len (PutsNumber (to_be_bytes w32) 4 (2 ^ 32) «data».now (string_bytes out.old) (string_bytes out.new))) }
+    ensures { IfOk result (λ len. IfSome len
+        (PutsNumber (to_be_bytes w32) (2 ^ 32) «data».now (string_bytes out.old) (string_bytes out.new))) }
 {
     let Some(octets) = data.first_chunk::<4>() else {
         return Ok(None);
@@ -115,7 +118,8 @@ fn is_word(bytes: &[u8]) -> bool
     true
 }
 
-/// Puts a character string that is a field: in no quotes where it is of letters and digits, as the tag of a CAA record stands (RFC 8659 section 4.1.1).
+/// Puts a character string that is a field: in no quotes where it is of letters and digits, as the tag of a CAA record
+/// stands (RFC 8659 section 4.1.1).
 fn put_string_field(data: &[u8], out: &mut String) -> Result<Option<usize>, AllocError>
     ensures { IfOk result (TakesField StringField «data».now (string_bytes out.old) (string_bytes out.new)) }
 {
@@ -176,7 +180,8 @@ fn put_record_type(data: &[u8], out: &mut String) -> Result<Option<usize>, Alloc
     Ok(Some(2))
 }
 
-/// Puts a field. Fields of the other kinds are not printed, and data that have them stand in the form that is one for all types.
+/// Puts a field. Fields of the other kinds are not printed, and data that have them stand in the form that is one for
+/// all types.
 fn put_field(field: Field, data: &[u8], out: &mut String) -> Result<Option<usize>, AllocError>
     ensures { IfOk result (TakesField field «data».now (string_bytes out.old) (string_bytes out.new)) }
 {

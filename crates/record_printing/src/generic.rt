@@ -8,7 +8,8 @@ use std::alloc::{AllocError, Global};
 /// Puts bytes: `\#`, how many there are, and two hexadecimal digits for each.
 pub(crate) fn put_generic(alloc: Global, data: &[u8], out: &mut String) -> Result<(), AllocError>
     requires { length «data».now < 2 ^ 16 }
-    ensures { OnOk result ((number : ℕ) → PutsWords (λ printed. ArePrintedData number printed «data».now) (string_bytes out.old) (string_bytes out.new)) }
+    ensures { OnOk result ((number : ℕ) →
+        PutsWords (λ printed. ArePrintedData number printed «data».now) (string_bytes out.old) (string_bytes out.new)) }
 {
     let len = data.len();
     write!(out, " \\# {len}")?;

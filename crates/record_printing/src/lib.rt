@@ -1,4 +1,5 @@
-//! Records as text: printed as a zone's text has them (RFC 1035 section 5.1, RFC 3597 section 5), so that they read back as themselves.
+//! Records as text: printed as a zone's text has them (RFC 1035 section 5.1, RFC 3597 section 5), so that they read
+//! back as themselves.
 #![tactic(auto)]
 
 mod data;

@@ -11,7 +11,8 @@ use std::alloc::{AllocError, Global};
 
 /// Puts character strings, at least one.
 fn put_strings(data: &[u8], out: &mut String) -> Result<bool, AllocError>
-    ensures { IfOk result (λ is. IsTrue is → PutsWords (λ printed. IsPrintedRest Strings printed «data».now) (string_bytes out.old) (string_bytes out.new)) }
+    ensures { IfOk result (λ is. IsTrue is →
+        PutsWords (λ printed. IsPrintedRest Strings printed «data».now) (string_bytes out.old) (string_bytes out.new)) }
 {
     let mut place = 0;
     'strings: while place < data.len() {
@@ -25,7 +26,8 @@ fn put_strings(data: &[u8], out: &mut String) -> Result<bool, AllocError>
 
 /// Puts bytes as hexadecimal digits, at least one byte.
 fn put_hex(alloc: Global, data: &[u8], out: &mut String) -> Result<bool, AllocError>
-    ensures { IfOk result (λ is. IsTrue is → PutsWords (λ printed. IsPrintedRest Hex printed «data».now) (string_bytes out.old) (string_bytes out.new)) }
+    ensures { IfOk result (λ is. IsTrue is →
+        PutsWords (λ printed. IsPrintedRest Hex printed «data».now) (string_bytes out.old) (string_bytes out.new)) }
 {
     if data.is_empty() {
         return Ok(false);
@@ -37,7 +39,8 @@ fn put_hex(alloc: Global, data: &[u8], out: &mut String) -> Result<bool, AllocEr
 
 /// Puts bytes in base 64, at least one byte.
 fn put_base64(data: &[u8], out: &mut String) -> Result<bool, AllocError>
-    ensures { IfOk result (λ is. IsTrue is → PutsWords (λ printed. IsPrintedRest Base64 printed «data».now) (string_bytes out.old) (string_bytes out.new)) }
+    ensures { IfOk result (λ is. IsTrue is →
+        PutsWords (λ printed. IsPrintedRest Base64 printed «data».now) (string_bytes out.old) (string_bytes out.new)) }
 {
     if data.is_empty() {
         return Ok(false);
@@ -47,15 +50,16 @@ fn put_base64(data: &[u8], out: &mut String) -> Result<bool, AllocError>
     Ok(true)
 }
 
-/// Puts what stands behind the fields, and tells whether the data are of its kind. Other kinds are not printed, and data that have them stand in
-/// the form that is one for all types.
+/// Puts what stands behind the fields, and tells whether the data are of its kind. Other kinds are not printed, and
+/// data that have them stand in the form that is one for all types.
 pub(crate) fn put_rest(
     alloc: Global,
     rest: Rest,
     data: &[u8],
     out: &mut String,
 ) -> Result<bool, AllocError>
-    ensures { IfOk result (λ is. IsTrue is → PutsWords (λ printed. IsPrintedRest rest printed «data».now) (string_bytes out.old) (string_bytes out.new)) }
+    ensures { IfOk result (λ is. IsTrue is →
+        PutsWords (λ printed. IsPrintedRest rest printed «data».now) (string_bytes out.old) (string_bytes out.new)) }
 {
     match rest {
         Rest::Nothing => Ok(data.is_empty()),

@@ -18,7 +18,8 @@ pub(crate) fn put_number(number: u32, out: &mut String) -> Result<(), AllocError
 
 /// Puts a string in quotes.
 pub(crate) fn put_quoted(bytes: &[u8], out: &mut String) -> Result<(), AllocError>
-    ensures { OnOk result (string_bytes out.new ≡ string_bytes out.old ++ 32 ∷ 34 ∷ (bytes_text true bytes.now ++ 34 ∷ [])) }
+    ensures { OnOk result (string_bytes out.new ≡ string_bytes out.old ++ 32 ∷ 34 ∷
+        (bytes_text true bytes.now ++ 34 ∷ [])) }
 {
     let text = TextBytes {
         bytes,

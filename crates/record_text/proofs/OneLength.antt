@@ -27,7 +27,8 @@ use Rattle.record_text.specs.RecordText.SpellsLowType.{named as low_named, numbe
 use Rattle.record_text.specs.RecordText.ArePorts.{none as no_ports, more as one_port}
 use Rattle.record_text.proofs.PortsOnce.{port_once}
 use Rattle.record_text.proofs.PrefixesOnce.{prefix_once}
-use Rattle.record_text.specs.RecordText.IsField.{number8, number16, number32, named8, unnamed8, named16, unnamed16, time, name, string, text, ipv4, ipv6, type, moment, no_salt, salt, hash, eui48, eui64, locator64, no_gateway, nsap}
+use Rattle.record_text.specs.RecordText.IsField.{number8, number16, number32, named8, unnamed8, named16, unnamed16, time, name, string, text, ipv4, ipv6, type, moment, no_gateway, in_digits}
+use Rattle.record_text.specs.RecordText.SpellsOctets.{no_salt, salt, hash, eui48, eui64, locator64, nsap}
 use Rattle.record_text.specs.RecordText.AreFields.{none as no_fields, more as one_field}
 use Rattle.record_text.specs.RecordText.AreStrings.{none as no_words, more as one_string}
 use Rattle.record_text.specs.RecordText.AreTypes.{none as no_names, more as one_type}
@@ -93,34 +94,50 @@ host_len algorithm tag key named =
 module _ (bytes_once : BytesSpelledOnce) (strings_once : StringsSpelledOnce) (names_once : NamesSpelledOnce) (types_once : TypesOnce) (service_once : ParametersOnce) where
   field_len : (origin : Option DomainName) (field : Field) (w : Word) (a b : List ℕ) → IsField origin field w a → IsField origin field w b → length a ≡ length b
   field_len origin field w a b (number8 p i s) (number8 q j t) = refl
+  field_len origin field w a b (number8 p i s) (in_digits q j) = elim j [ ]
   field_len origin field w a b (number16 p i s) (number16 q j t) = refl
+  field_len origin field w a b (number16 p i s) (in_digits q j) = elim j [ ]
   field_len origin field w a b (number32 p i s) (number32 q j t) = refl
+  field_len origin field w a b (number32 p i s) (in_digits q j) = elim j [ ]
   field_len origin field w a b (named8 p i) (named8 q j) = refl
   field_len origin field w a b (named8 p i) (unnamed8 q j t) = refl
+  field_len origin field w a b (named8 p i) (in_digits q j) = elim j [ ]
   field_len origin field w a b (unnamed8 p i s) (named8 q j) = refl
   field_len origin field w a b (unnamed8 p i s) (unnamed8 q j t) = refl
+  field_len origin field w a b (unnamed8 p i s) (in_digits q j) = elim j [ ]
   field_len origin field w a b (named16 p i) (named16 q j) = refl
   field_len origin field w a b (named16 p i) (unnamed16 q j t) = refl
+  field_len origin field w a b (named16 p i) (in_digits q j) = elim j [ ]
   field_len origin field w a b (unnamed16 p i s) (named16 q j) = refl
   field_len origin field w a b (unnamed16 p i s) (unnamed16 q j t) = refl
+  field_len origin field w a b (unnamed16 p i s) (in_digits q j) = elim j [ ]
   field_len origin field w a b (time p i s) (time q j t) = refl
+  field_len origin field w a b (time p i s) (in_digits q j) = elim j [ ]
   field_len origin field w a b (name {labels = ls} p i s) (name {labels = ms} q j t) = ap (λ (l : List (List ℕ)). length (name_octets l)) (names_once origin w.bytes.now ls ms i j)
+  field_len origin field w a b (name p i s) (in_digits q j) = elim j [ ]
   field_len origin field w a b (string i) (string j) = ap length (strings_once w a b i j)
+  field_len origin field w a b (string i) (in_digits q j) = elim j [ ]
   field_len origin field w a b (text i) (text j) = ap length (bytes_once w.bytes.now a b i j)
+  field_len origin field w a b (text i) (in_digits q j) = elim j [ ]
   field_len origin field w a b (ipv4 {address = x} p i) (ipv4 {address = y} q j) = ap (λ x. length (ipv4_octets x)) (IsIpv4Text_unique w.bytes.now x y i j)
+  field_len origin field w a b (ipv4 p i) (in_digits q j) = elim j [ ]
   field_len origin field w a b (ipv6 {address = x} p i) (ipv6 {address = y} q j) = ap (λ x. length (ipv6_octets x)) (IsIpv6Text_unique w.bytes.now x y i j)
+  field_len origin field w a b (ipv6 p i) (in_digits q j) = elim j [ ]
   field_len origin field w a b (type p i) (type q j) = refl
+  field_len origin field w a b (type p i) (in_digits q j) = elim j [ ]
   field_len origin field w a b (moment p i) (moment q j) = refl
-  field_len origin field w a b (no_salt p i) (no_salt q j) = refl
-  field_len origin field w a b (no_salt p i) (salt q other j short) = absurd (other i)
-  field_len origin field w a b (salt p other i short) (no_salt q j) = absurd (other j)
-  field_len origin field w a b (salt {octets = x} p other i short) (salt {octets = y} q another j small) = ap (λ (o : List ℕ). length (character_string o)) (decoded_once (decode_of w.bytes.now) x y i j)
-  field_len origin field w a b (hash {octets = x} p i short) (hash {octets = y} q j small) = omega (arith, base32_len i, base32_len j)
-  field_len origin field w a b (eui48 p i) (eui48 q j) = groups_len 45 group.Octet 6 w.bytes.now a i ∙ sym (groups_len 45 group.Octet 6 w.bytes.now b j)
-  field_len origin field w a b (eui64 p i) (eui64 q j) = groups_len 45 group.Octet 8 w.bytes.now a i ∙ sym (groups_len 45 group.Octet 8 w.bytes.now b j)
-  field_len origin field w a b (locator64 p i) (locator64 q j) = groups_len 58 group.Bits16 4 w.bytes.now a i ∙ sym (groups_len 58 group.Bits16 4 w.bytes.now b j)
+  field_len origin field w a b (moment p i) (in_digits q j) = elim j [ ]
+  field_len origin field w a b (in_digits p (no_salt i)) (in_digits q (no_salt j)) = refl
+  field_len origin field w a b (in_digits p (no_salt i)) (in_digits q (salt other j short)) = absurd (other i)
+  field_len origin field w a b (in_digits p (salt other i short)) (in_digits q (no_salt j)) = absurd (other j)
+  field_len origin field w a b (in_digits p (salt {octets = x} other i short)) (in_digits q (salt {octets = y} another j small)) = ap (λ (o : List ℕ). length (character_string o)) (decoded_once (decode_of w.bytes.now) x y i j)
+  field_len origin field w a b (in_digits p (hash {octets = x} i short)) (in_digits q (hash {octets = y} j small)) = omega (arith, base32_len i, base32_len j)
+  field_len origin field w a b (in_digits p (eui48 i)) (in_digits q (eui48 j)) = groups_len 45 group.Octet 6 w.bytes.now a i ∙ sym (groups_len 45 group.Octet 6 w.bytes.now b j)
+  field_len origin field w a b (in_digits p (eui64 i)) (in_digits q (eui64 j)) = groups_len 45 group.Octet 8 w.bytes.now a i ∙ sym (groups_len 45 group.Octet 8 w.bytes.now b j)
+  field_len origin field w a b (in_digits p (locator64 i)) (in_digits q (locator64 j)) = groups_len 58 group.Bits16 4 w.bytes.now a i ∙ sym (groups_len 58 group.Bits16 4 w.bytes.now b j)
   field_len origin field w a b (no_gateway p i) (no_gateway q j) = refl
-  field_len origin field w a b (nsap p i) (nsap q j) = ap length (nsap_once w.bytes.now a b i j)
+  field_len origin field w a b (no_gateway p i) (in_digits q j) = elim j [ ]
+  field_len origin field w a b (in_digits p (nsap i)) (in_digits q (nsap j)) = ap length (nsap_once w.bytes.now a b i j)
 
   no_push : {X : Type 0} (xs : List X) (x : X) → [] ≡ xs ++ x ∷ [] → ⊥
   no_push [] x e = cc

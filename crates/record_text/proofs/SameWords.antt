@@ -17,7 +17,8 @@ use Rattle.record_text.specs.RecordText.{AreFields, AreLowTypes, AreNames, ArePl
 use Rattle.record_text.specs.RecordText.AreNames.{none as no_servers, more as one_server}
 use Rattle.record_text.specs.RecordText.AreLowTypes.{none as no_low_types, more as one_low}
 use Rattle.record_text.specs.RecordText.ArePorts.{none as no_ports, more as one_port}
-use Rattle.record_text.specs.RecordText.IsField.{number8, number16, number32, named8, unnamed8, named16, unnamed16, time, name, string, text, ipv4, ipv6, type, moment, no_salt, salt, hash, eui48, eui64, locator64, no_gateway, nsap}
+use Rattle.record_text.specs.RecordText.IsField.{number8, number16, number32, named8, unnamed8, named16, unnamed16, time, name, string, text, ipv4, ipv6, type, moment, no_gateway, in_digits}
+use Rattle.record_text.specs.RecordText.SpellsOctets.{no_salt, salt, hash, eui48, eui64, locator64, nsap}
 use Rattle.record_text.specs.RecordText.AreFields.{none as no_fields, more as one_field}
 use Rattle.record_text.specs.RecordText.AreStrings.{none as no_words, more as one_string}
 use Rattle.record_text.specs.RecordText.AreTypes.{none as no_names, more as one_type}
@@ -57,14 +58,14 @@ same_field origin field a b octets s (ipv4 {address = address} plain is) = ipv4 
 same_field origin field a b octets s (ipv6 {address = address} plain is) = ipv6 (sym s.quoted ∙ plain) (subst (λ (t : List ℕ). IsIpv6Text t address) s.bytes is)
 same_field origin field a b octets s (type {number = number} plain is) = type (sym s.quoted ∙ plain) (subst (λ (t : List ℕ). SpellsType t number) s.bytes is)
 same_field origin field a b octets s (moment {n = n} plain is) = moment (sym s.quoted ∙ plain) (subst (λ (t : List ℕ). SpellsMoment t n) s.bytes is)
-same_field origin field a b octets s (no_salt plain is) = no_salt (sym s.quoted ∙ plain) (sym s.bytes ∙ is)
-same_field origin field a b octets s (salt {octets = own} plain other is short) = salt (sym s.quoted ∙ plain) (λ e. other (s.bytes ∙ e)) (subst (λ (t : List ℕ). decode_of t ≡ Ok own) s.bytes is) short
-same_field origin field a b octets s (hash {octets = own} plain is short) = hash (sym s.quoted ∙ plain) (subst (λ (t : List ℕ). SpellsBase32 t own) s.bytes is) short
-same_field origin field a b octets s (eui48 plain is) = eui48 (sym s.quoted ∙ plain) (subst (λ (t : List ℕ). SpellsHexGroups 45 group.Octet 6 t octets) s.bytes is)
-same_field origin field a b octets s (eui64 plain is) = eui64 (sym s.quoted ∙ plain) (subst (λ (t : List ℕ). SpellsHexGroups 45 group.Octet 8 t octets) s.bytes is)
-same_field origin field a b octets s (locator64 plain is) = locator64 (sym s.quoted ∙ plain) (subst (λ (t : List ℕ). SpellsHexGroups 58 group.Bits16 4 t octets) s.bytes is)
+same_field origin field a b octets s (in_digits plain (no_salt is)) = in_digits (sym s.quoted ∙ plain) (no_salt (sym s.bytes ∙ is))
+same_field origin field a b octets s (in_digits plain (salt {octets = own} other is short)) = in_digits (sym s.quoted ∙ plain) (salt (λ e. other (s.bytes ∙ e)) (subst (λ (t : List ℕ). decode_of t ≡ Ok own) s.bytes is) short)
+same_field origin field a b octets s (in_digits plain (hash {octets = own} is short)) = in_digits (sym s.quoted ∙ plain) (hash (subst (λ (t : List ℕ). SpellsBase32 t own) s.bytes is) short)
+same_field origin field a b octets s (in_digits plain (eui48 is)) = in_digits (sym s.quoted ∙ plain) (eui48 (subst (λ (t : List ℕ). SpellsHexGroups 45 group.Octet 6 t octets) s.bytes is))
+same_field origin field a b octets s (in_digits plain (eui64 is)) = in_digits (sym s.quoted ∙ plain) (eui64 (subst (λ (t : List ℕ). SpellsHexGroups 45 group.Octet 8 t octets) s.bytes is))
+same_field origin field a b octets s (in_digits plain (locator64 is)) = in_digits (sym s.quoted ∙ plain) (locator64 (subst (λ (t : List ℕ). SpellsHexGroups 58 group.Bits16 4 t octets) s.bytes is))
 same_field origin field a b octets s (no_gateway plain is) = no_gateway (sym s.quoted ∙ plain) (sym s.bytes ∙ is)
-same_field origin field a b octets s (nsap plain is) = nsap (sym s.quoted ∙ plain) (subst (λ (t : List ℕ). SpellsNsap t octets) s.bytes is)
+same_field origin field a b octets s (in_digits plain (nsap is)) = in_digits (sym s.quoted ∙ plain) (nsap (subst (λ (t : List ℕ). SpellsNsap t octets) s.bytes is))
 
 -- the same words, cut where the others are
 pub record Cut (front behind others : List Word) : Type 0 where

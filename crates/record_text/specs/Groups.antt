@@ -16,8 +16,8 @@ pub data SpellsGroups : List ℕ → List ℕ → Type 0 where
   none : SpellsGroups [] []
   more : {text piece octets : List ℕ} (n : ℕ) → SpellsGroups text octets → length piece ≡ 8 → IsBase32 piece n → SpellsGroups (text ++ piece) (octets ++ drop 3 (to_be_bytes w64 n))
 
--- A last group of fewer digits, by their count: how many octets it makes, and by how much its number is greater than the one that these make, since the bits
--- behind theirs, from one to four, are zero (RFC 4648 sections 6 and 3.5).
+-- A last group of fewer digits, by their count: how many octets it makes, and by how much its number is greater than
+-- the one that these make, since the bits behind theirs, from one to four, are zero (RFC 4648 sections 6 and 3.5).
 abbrev pub last_group : ℕ → Option (ℕ × ℕ)
 last_group count = if count == 2 then Some (1, 4) else if count == 4 then Some (2, 16) else if count == 5 then Some (3, 2) else if count == 7 then Some (4, 8) else None
 
@@ -56,7 +56,8 @@ pub data SpellsHexGroups (between : ℕ) (kind : Group) : ℕ → List ℕ → L
 abbrev pub without_dots : List ℕ → List ℕ
 without_dots text = filter (λ byte. not (byte == 46)) text
 
--- An address of the OSI network layer (RFC 1706 section 5): 0x, and two hexadecimal digits for each octet, at least one, with dots anywhere among them.
+-- An address of the OSI network layer (RFC 1706 section 5): 0x, and two hexadecimal digits for each octet, at least
+-- one, with dots anywhere among them.
 pub record SpellsNsap (text octets : List ℕ) : Type 0 where
   pub zero : get_or text 0 0 ≡ 48
   pub is_x : (get_or text 1 0 ≡ 120) ⊎ (get_or text 1 0 ≡ 88)

@@ -1,5 +1,5 @@
 -- The mnemonics of numbers in the data of records.
-use Rattle.std.specs.Prelude.{ℕ, List, [], ◌∷◌, codes}
+use Rattle.std.specs.Prelude.{ℕ, List, [], ◌∷◌, ◌++◌, codes}
 use Rattle.record_text.specs.declared.data.field.Names.{Names}
 use Rattle.record_text.specs.declared.data.field.Names.TheVariants as names
 
@@ -11,9 +11,10 @@ pub record NamedNumber : Type 0 where
 abbrev pub mnemonic : ℕ → List ℕ → NamedNumber
 mnemonic number letters = record { number = number; letters = letters }
 
--- algorithms of DNSSEC (RFC 4034 appendix A.1, IANA's registry), and the names NSEC3DSA, NSEC3RSASHA1 and ECCGOST that BIND gives to three of them
-abbrev pub algorithms : List NamedNumber
-algorithms =
+-- algorithms of DNSSEC up to SHA-1 (RFC 4034 appendix A.1, RFC 5155 section 2, IANA's registry), and the names
+-- NSEC3DSA and NSEC3RSASHA1 that BIND gives to two of them
+abbrev pub first_algorithms : List NamedNumber
+first_algorithms =
     mnemonic 1 (codes "RSAMD5")
     ∷ mnemonic 2 (codes "DH")
     ∷ mnemonic 3 (codes "DSA")
@@ -23,7 +24,12 @@ algorithms =
     ∷ mnemonic 6 (codes "NSEC3DSA")
     ∷ mnemonic 7 (codes "RSASHA1-NSEC3-SHA1")
     ∷ mnemonic 7 (codes "NSEC3RSASHA1")
-    ∷ mnemonic 8 (codes "RSASHA256")
+    ∷ []
+
+-- algorithms of DNSSEC behind these (IANA's registry), and the name ECCGOST that BIND gives to one
+abbrev pub later_algorithms : List NamedNumber
+later_algorithms =
+    mnemonic 8 (codes "RSASHA256")
     ∷ mnemonic 10 (codes "RSASHA512")
     ∷ mnemonic 12 (codes "ECC-GOST")
     ∷ mnemonic 12 (codes "ECCGOST")
@@ -31,10 +37,19 @@ algorithms =
     ∷ mnemonic 14 (codes "ECDSAP384SHA384")
     ∷ mnemonic 15 (codes "ED25519")
     ∷ mnemonic 16 (codes "ED448")
-    ∷ mnemonic 252 (codes "INDIRECT")
+    ∷ []
+
+-- keys that stand elsewhere, and algorithms that their users name (RFC 4034 appendix A.1)
+abbrev pub private_algorithms : List NamedNumber
+private_algorithms =
+    mnemonic 252 (codes "INDIRECT")
     ∷ mnemonic 253 (codes "PRIVATEDNS")
     ∷ mnemonic 254 (codes "PRIVATEOID")
     ∷ []
+
+-- algorithms of DNSSEC
+abbrev pub algorithms : List NamedNumber
+algorithms = first_algorithms ++ later_algorithms ++ private_algorithms
 
 -- types of certificates (RFC 4398 section 2.1)
 abbrev pub certificates : List NamedNumber
@@ -79,9 +94,9 @@ protocols =
     ∷ mnemonic 27 (codes "RDP")
     ∷ []
 
--- services at ports below 256 (RFC 1010, IANA's registry), as the systems have them
-abbrev pub services : List NamedNumber
-services =
+-- services by which hosts and networks are tried, at ports below 20
+abbrev pub test_services : List NamedNumber
+test_services =
     mnemonic 7 (codes "ECHO")
     ∷ mnemonic 9 (codes "DISCARD")
     ∷ mnemonic 11 (codes "SYSTAT")
@@ -89,7 +104,12 @@ services =
     ∷ mnemonic 15 (codes "NETSTAT")
     ∷ mnemonic 17 (codes "QOTD")
     ∷ mnemonic 19 (codes "CHARGEN")
-    ∷ mnemonic 20 (codes "FTP-DATA")
+    ∷ []
+
+-- files, terminals, mail, names, and the start of hosts, at ports from 20 on
+abbrev pub host_services : List NamedNumber
+host_services =
+    mnemonic 20 (codes "FTP-DATA")
     ∷ mnemonic 21 (codes "FTP")
     ∷ mnemonic 22 (codes "SSH")
     ∷ mnemonic 23 (codes "TELNET")
@@ -102,7 +122,12 @@ services =
     ∷ mnemonic 68 (codes "BOOTPC")
     ∷ mnemonic 69 (codes "TFTP")
     ∷ mnemonic 70 (codes "GOPHER")
-    ∷ mnemonic 79 (codes "FINGER")
+    ∷ []
+
+-- users, pages, letters, news, the time, management and routes, at ports from 79 on
+abbrev pub network_services : List NamedNumber
+network_services =
+    mnemonic 79 (codes "FINGER")
     ∷ mnemonic 80 (codes "HTTP")
     ∷ mnemonic 80 (codes "WWW")
     ∷ mnemonic 88 (codes "KERBEROS")
@@ -120,6 +145,10 @@ services =
     ∷ mnemonic 179 (codes "BGP")
     ∷ mnemonic 194 (codes "IRC")
     ∷ []
+
+-- services at ports below 256 (RFC 1010, IANA's registry), as the systems have them
+abbrev pub services : List NamedNumber
+services = test_services ++ host_services ++ network_services
 
 -- schemes of notification (RFC 9859 section 6.2)
 abbrev pub schemes : List NamedNumber

@@ -52,8 +52,8 @@ pub record SpellsDate (text : List ℕ) (date : Date) : Type 0 where
   pub minutes : IsNumber minute date.minute
   pub seconds : IsNumber second date.second
 
--- A date in 32 bits: its seconds since 1970, before which are 719162 days, without what goes beyond these; those before 1970 are counted back from 0, and so
--- from a multiple of 2^32 (section 3.1.5).
+-- A date in 32 bits: its seconds since 1970, before which are 719162 days, without what goes beyond these; those before
+-- 1970 are counted back from 0, and so from a multiple of 2^32 (section 3.1.5).
 abbrev pub date_bits : Date → ℕ
 date_bits date = (date_seconds date + 15 * 2 ^ 32 - 86400 * 719162) % 2 ^ 32
 

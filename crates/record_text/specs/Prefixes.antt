@@ -46,8 +46,8 @@ pub record IsPrefixOf (text : List ℕ) (family bits : ℕ) (address : List ℕ)
 abbrev pub told_len : Bool → List ℕ → ℕ
 told_len negated address = length (trimmed address) + (if negated then 128 else 0)
 
--- A prefix (RFC 3123 sections 4 and 5): `!` where it is negated, and its parts. The octets are the family, the bits, how many octets of the address are told, and
--- these.
+-- A prefix (RFC 3123 sections 4 and 5): `!` where it is negated, and its parts. The octets are the family, the bits,
+-- how many octets of the address are told, and these.
 pub record SpellsPrefix (text octets : List ℕ) : Type 0 where
   pub family : ℕ
   pub bits : ℕ

@@ -1,4 +1,5 @@
--- The data of a record as the words of a zone's text, and the octets that they stand for (RFC 1035 section 5.1, RFC 3597 section 5).
+-- The data of a record as the words of a zone's text, and the octets that they stand for (RFC 1035 section 5.1, RFC
+-- 3597 section 5).
 use Rattle.std.specs.Prelude.{◌≡◌, ◌≢◌, ℕ, ◌+◌, ◌*◌, ◌^◌, ◌<◌, ◌≤◌, ◌==◌, if◌then◌else◌, false, List, [], ◌∷◌, ◌++◌, length, map, codes, Any, All, Option, Some, None, Ok}
 use Rattle.std.specs.Char.{to_ascii_lowercase}
 use Rattle.std.specs.Int.{w16, w32, to_be_bytes}
@@ -37,7 +38,7 @@ use Rattle.text_words.specs.Spelling.{IsNumber, IsString, Spells, any_byte, Spel
 use Rattle.record_text.specs.Prefixes.{ArePrefixes}
 use Rattle.record_text.specs.TypeBitmaps.{bitmap, bitmap_len, windows}
 use Rattle.record_text.specs.TypeTable.{TypeRow, rows, row_of}
-use Rattle.text_words.specs.Words.{AreWordsTo}
+use Rattle.text_words.specs.Words.{AreWordsTo, WordsLeft}
 
 -- Nothing is such as a fact says.
 abbrev pub HasNone : {A : Type 0} → (A → Type 0) → Type 0
@@ -77,6 +78,17 @@ pub data SpellsType : List ℕ → ℕ → Type 0 where
   mnemonic : {text : List ℕ} {number : ℕ} → SpellsMnemonic text number → SpellsType text number
   numbered : {text : List ℕ} {number : ℕ} → IsTypeNumber text number → SpellsType text number
 
+-- A text that spells the octets of a field in digits, of base 16 or, where it is a hash, 32; `-` is a salt of none
+-- (RFC 5155 section 3.3).
+pub data SpellsOctets : Field → List ℕ → List ℕ → Type 0 where
+  no_salt : {text : List ℕ} → text ≡ 45 ∷ [] → SpellsOctets field.Salt text (0 ∷ [])
+  salt : {text octets : List ℕ} → text ≢ 45 ∷ [] → decode_of text ≡ Ok octets → length octets < 256 → SpellsOctets field.Salt text (character_string octets)
+  hash : {text octets : List ℕ} → SpellsBase32 text octets → length octets < 256 → SpellsOctets field.Hash text (character_string octets)
+  eui48 : {text octets : List ℕ} → SpellsHexGroups 45 group.Octet 6 text octets → SpellsOctets field.Eui48 text octets
+  eui64 : {text octets : List ℕ} → SpellsHexGroups 45 group.Octet 8 text octets → SpellsOctets field.Eui64 text octets
+  locator64 : {text octets : List ℕ} → SpellsHexGroups 58 group.Bits16 4 text octets → SpellsOctets field.Locator64 text octets
+  nsap : {text octets : List ℕ} → SpellsNsap text octets → SpellsOctets field.Nsap text octets
+
 -- A word as it stands for a field's octets. Names have at most 255 (RFC 1035 section 2.3.4).
 pub data IsField (origin : Option DomainName) : Field → Word → List ℕ → Type 0 where
   number8 : {w : Word} {n : ℕ} → w.quoted ≡ false → IsNumber w.bytes.now n → n < 2 ^ 8 → IsField origin field.Number8 w (n ∷ [])
@@ -94,14 +106,8 @@ pub data IsField (origin : Option DomainName) : Field → Word → List ℕ → 
   ipv6 : {w : Word} {address : Ipv6Addr} → w.quoted ≡ false → IsIpv6Text w.bytes.now address → IsField origin field.Ipv6 w (ipv6_octets address)
   type : {w : Word} {number : ℕ} → w.quoted ≡ false → SpellsType w.bytes.now number → IsField origin field.RecordType w (to_be_bytes w16 number)
   moment : {w : Word} {n : ℕ} → w.quoted ≡ false → SpellsMoment w.bytes.now n → IsField origin field.Moment w (to_be_bytes w32 n)
-  no_salt : {w : Word} → w.quoted ≡ false → w.bytes.now ≡ 45 ∷ [] → IsField origin field.Salt w (0 ∷ [])
-  salt : {w : Word} {octets : List ℕ} → w.quoted ≡ false → w.bytes.now ≢ 45 ∷ [] → decode_of w.bytes.now ≡ Ok octets → length octets < 256 → IsField origin field.Salt w (character_string octets)
-  hash : {w : Word} {octets : List ℕ} → w.quoted ≡ false → SpellsBase32 w.bytes.now octets → length octets < 256 → IsField origin field.Hash w (character_string octets)
-  eui48 : {w : Word} {octets : List ℕ} → w.quoted ≡ false → SpellsHexGroups 45 group.Octet 6 w.bytes.now octets → IsField origin field.Eui48 w octets
-  eui64 : {w : Word} {octets : List ℕ} → w.quoted ≡ false → SpellsHexGroups 45 group.Octet 8 w.bytes.now octets → IsField origin field.Eui64 w octets
-  locator64 : {w : Word} {octets : List ℕ} → w.quoted ≡ false → SpellsHexGroups 58 group.Bits16 4 w.bytes.now octets → IsField origin field.Locator64 w octets
   no_gateway : {w : Word} → w.quoted ≡ false → w.bytes.now ≡ 46 ∷ [] → IsField origin field.NoGateway w []
-  nsap : {w : Word} {octets : List ℕ} → w.quoted ≡ false → SpellsNsap w.bytes.now octets → IsField origin field.Nsap w octets
+  in_digits : {field : Field} {w : Word} {octets : List ℕ} → w.quoted ≡ false → SpellsOctets field w.bytes.now octets → IsField origin field w octets
 
 -- words for the fields, one for each, and their octets one behind the other
 pub data AreFields (origin : Option DomainName) : List Field → List Word → List ℕ → Type 0 where
@@ -138,7 +144,8 @@ pub data AreLowTypes : List Word → List ℕ → Type 0 where
   none : AreLowTypes [] []
   more : {words : List Word} {numbers : List ℕ} {number : ℕ} (word : Word) → AreLowTypes words numbers → word.quoted ≡ false → SpellsLowType word.bytes.now number → 0 < number → number < 128 → AreLowTypes (words ++ word ∷ []) (numbers ++ number ∷ [])
 
--- a set of such types as octets: a bitmap, in which the first bit is type 0, up to the octet of the greatest (RFC 2535 section 5.2)
+-- a set of such types as octets: a bitmap, in which the first bit is type 0, up to the octet of the greatest (RFC 2535
+-- section 5.2)
 pub record IsLowTypeSet (words : List Word) (octets : List ℕ) : Type 0 where
   pub types : List ℕ
   pub spelled : AreLowTypes words types
@@ -169,13 +176,15 @@ pub data ArePorts : List Word → List ℕ → Type 0 where
   none : ArePorts [] []
   more : {words : List Word} {ports : List ℕ} {port : ℕ} (word : Word) → ArePorts words ports → word.quoted ≡ false → SpellsPort word.bytes.now port → ArePorts (words ++ word ∷ []) (ports ++ port ∷ [])
 
--- the ports of services as octets: a bitmap, in which the first bit is port 0, up to the octet of the greatest (RFC 1035 section 3.4.2)
+-- the ports of services as octets: a bitmap, in which the first bit is port 0, up to the octet of the greatest (RFC
+-- 1035 section 3.4.2)
 pub record ArePortBits (words : List Word) (octets : List ℕ) : Type 0 where
   pub ports : List ℕ
   pub spelled : ArePorts words ports
   pub written : octets ≡ bitmap ports 0 (bitmap_len ports)
 
--- the fields by the type of a gateway: that type, an algorithm, and `.` for no gateway, an IPv4 address, an IPv6 address, or a name (RFC 4025 section 2.3)
+-- the fields by the type of a gateway: that type, an algorithm, and `.` for no gateway, an IPv4 address, an IPv6
+-- address, or a name (RFC 4025 section 2.3)
 abbrev pub gateway_fields : ℕ → Option (List Field)
 gateway_fields kind =
     if kind == 0 then Some (field.Number8 ∷ field.Number8 ∷ field.NoGateway ∷ [])
@@ -184,7 +193,8 @@ gateway_fields kind =
     else if kind == 3 then Some (field.Number8 ∷ field.Number8 ∷ field.Name ∷ [])
     else None
 
--- a gateway and the key to it (RFC 4025 section 2): what the fields are, tells the first of them; behind them stands the key
+-- a gateway and the key to it (RFC 4025 section 2): what the fields are, tells the first of them; behind them stands
+-- the key
 pub record IsGateway (origin : Option DomainName) (words : List Word) (octets : List ℕ) : Type 0 where
   pub first : Word
   pub kind : ℕ
@@ -219,8 +229,8 @@ pub record IsKey (word : Word) (key : List ℕ) : Type 0 where
   pub some : 0 < length key
   pub short : length key < 2 ^ 16
 
--- The identity of a host (RFC 8005 sections 5 and 6): the words are an algorithm, a tag, a public key, and the names of servers. The octets are the length of the
--- tag, the algorithm, the length of the key, and then these.
+-- The identity of a host (RFC 8005 sections 5 and 6): the words are an algorithm, a tag, a public key, and the names of
+-- servers. The octets are the length of the tag, the algorithm, the length of the key, and then these.
 pub record IsIdentity (origin : Option DomainName) (first second third : Word) (servers : List Word) (octets : List ℕ) : Type 0 where
   pub algorithm : ℕ
   pub tag : List ℕ
@@ -236,8 +246,8 @@ pub record IsIdentity (origin : Option DomainName) (first second third : Word) (
 abbrev pub relay_field : ℕ → Option Field
 relay_field kind = if kind == 0 then Some field.NoGateway else if kind == 1 then Some field.Ipv4 else if kind == 2 then Some field.Ipv6 else if kind == 3 then Some field.Name else None
 
--- Whether a relay may be asked at once, 0 or 1, its type, and the relay (RFC 8777 sections 4.2 and 4.3): the first octet has the one in its high bit, and the type
--- in the others.
+-- Whether a relay may be asked at once, 0 or 1, its type, and the relay (RFC 8777 sections 4.2 and 4.3): the first
+-- octet has the one in its high bit, and the type in the others.
 pub record IsRelay (origin : Option DomainName) (first second third : Word) (octets : List ℕ) : Type 0 where
   pub discovery : ℕ
   pub kind : ℕ
@@ -249,8 +259,8 @@ pub record IsRelay (origin : Option DomainName) (first second third : Word) (oct
   pub is : IsField origin field third own
   pub together : octets ≡ (128 * discovery + kind) ∷ own
 
--- What the words behind the fields stand for: none is left; character strings; hexadecimal digits; the encoding of octets in
--- base 64; a set of types; the parameters of a service; the ports of services; address
+-- What the words behind the fields stand for: none is left; character strings; hexadecimal digits; the encoding of
+-- octets in base 64; a set of types; the parameters of a service; the ports of services; address
 -- prefixes; a gateway with its key; the identity of a host; a set of types below 128; a location; or a relay.
 pub data IsRest (origin : Option DomainName) : Rest → List Word → List ℕ → Type 0 where
   nothing : IsRest origin rest.Nothing [] []
@@ -282,7 +292,8 @@ pub record IsRow (origin : Option DomainName) (row : TypeRow) (words : List Word
 pub data IsData (origin : Option DomainName) (number : ℕ) : List Word → List ℕ → Type 0 where
   in_form : {row : TypeRow} {words : List Word} {octets : List ℕ} → row_of number ≡ Some row → IsRow origin row words octets → IsData origin number words octets
 
--- the record of the root with these data, in bytes: its name, type, class IN, TTL 0, and the data behind their length (RFC 1035 section 4.1.3)
+-- the record of the root with these data, in bytes: its name, type, class IN, TTL 0, and the data behind their length
+-- (RFC 1035 section 4.1.3)
 abbrev pub root_record : ℕ → List ℕ → List ℕ
 root_record number octets = (0 ∷ to_be_bytes w16 number) ++ (0 ∷ 1 ∷ 0 ∷ 0 ∷ 0 ∷ 0 ∷ []) ++ to_be_bytes w16 (length octets) ++ octets
 
@@ -290,8 +301,9 @@ root_record number octets = (0 ∷ to_be_bytes w16 number) ++ (0 ∷ 1 ∷ 0 ∷
 abbrev pub AreReadOf : ℕ → List ℕ → RData → Type 0
 AreReadOf number octets rdata = (r : Record RData) × (next : ℕ) × RecordAt (root_record number octets) 0 r next × (rdata ≡ r.rdata)
 
--- The form that is one for all types (RFC 3597 section 5): behind `\#` stand the length of the data, which has 16 bits (RFC 1035 section 3.2.1), and their
--- octets in hexadecimal digits. The data are those of the type that are read of them, and no name in them is compressed: in full they take just these octets.
+-- The form that is one for all types (RFC 3597 section 5): behind `\#` stand the length of the data, which has 16 bits
+-- (RFC 1035 section 3.2.1), and their octets in hexadecimal digits. The data are those of the type that are read of
+-- them, and no name in them is compressed: in full they take just these octets.
 pub record IsGenericData (number : ℕ) (size : Word) (digits : List Word) (rdata : RData) : Type 0 where
   pub octets : List ℕ
   pub unquoted : size.quoted ≡ false
@@ -308,15 +320,15 @@ abbrev pub BeginGeneric : List Word → Type 0
 BeginGeneric (mark ∷ size ∷ digits) = (mark.quoted ≡ false) × (mark.bytes.now ≡ 92 ∷ 35 ∷ [])
 BeginGeneric words = ⊥
 
--- The words are data of a type, and these are the data: in the form of the type, or, where they begin so, in the form that is one for all. Data have at most
--- 65,535 octets, as many as their length can tell (RFC 1035 section 3.2.1).
+-- The words are data of a type, and these are the data: in the form of the type, or, where they begin so, in the form
+-- that is one for all. Data have at most 65,535 octets, as many as their length can tell (RFC 1035 section 3.2.1).
 pub data SpellsData (origin : Option DomainName) (number : ℕ) : List Word → RData → Type 0 where
   in_form : {words : List Word} {rdata : RData} → ¬ (BeginGeneric words) → IsData origin number words (data_octets rdata) → data_len rdata ≤ 65535 → SpellsData origin number words rdata
   generic : {mark size : Word} {digits : List Word} {rdata : RData} → mark.quoted ≡ false → mark.bytes.now ≡ 92 ∷ 35 ∷ [] → IsGenericData number size digits rdata → SpellsData origin number (mark ∷ size ∷ digits) rdata
 
--- From a place of a text within so many parentheses on, the words to the end are data of a type, and these are the data.
-pub record HasData (origin : Option DomainName) (number : ℕ) (kind : TextKind) (text : List ℕ) (place depth : ℕ) (rdata : RData) : Type 0 where
+-- The words of what is left of a text, to the end, are data of a type, and these are the data.
+pub record HasData (origin : Option DomainName) (number : ℕ) (left : WordsLeft) (rdata : RData) : Type 0 where
   pub words : List Word
   pub end : ℕ
-  pub stand : AreWordsTo kind text place depth words end
+  pub stand : AreWordsTo left.kind left.text left.place left.depth words end
   pub spelled : SpellsData origin number words rdata

@@ -1,5 +1,6 @@
--- Sets of types as octets (RFC 4034 section 4.1.2): types of one high octet make a window, which has the octet, the number of octets of its bitmap, and the
--- bitmap, in which the first bit is the type of the low octet 0. A window without types is left out, and so are octets without types at the end of a bitmap.
+-- Sets of types as octets (RFC 4034 section 4.1.2): types of one high octet make a window, which has the octet, the
+-- number of octets of its bitmap, and the bitmap, in which the first bit is the type of the low octet 0. A window
+-- without types is left out, and so are octets without types at the end of a bitmap.
 use Rattle.std.specs.Prelude.{ℕ, zero, suc, ◌+◌, ◌*◌, ◌/◌, ◌%◌, ◌==◌, max, if◌then◌else◌, List, [], ◌∷◌, ◌++◌, fold}
 use Rattle.std.specs.List.{list_any}
 

@@ -24,6 +24,7 @@ ghost use Rattle.wire_messages.specs.serialize.writing.FullForm.{data_octets};
 ghost use Rattle.wire_messages.specs.serialize.writing.RecordSize.{data_len};
 ghost use Rattle.text_words.specs.declared.error.TextError.TheVariants.{Memory};
 ghost use Rattle.text_words.specs.declared.words.TextKind.TheVariants.{Line};
+ghost use Rattle.text_words.specs.Words.{words_left};
 ghost use Rattle.record_text.specs.RecordText.{BeginGeneric, HasData, HasNone, IsData, SpellsData};
 
 use crate::data::forms::data_in_form;
@@ -35,8 +36,8 @@ use std::alloc::Global;
 use text_words::word_laws::{words_spell_once, words_stand_once};
 use text_words::{TextError, TextFault, Word, Words, fault_at};
 
-/// What a record of the root takes whose data have all the bytes that their length can tell: its name has one byte, and type, class, TTL and length
-/// have ten (RFC 1035 section 3.2.1).
+/// What a record of the root takes whose data have all the bytes that their length can tell: its name has one byte, and
+/// type, class, TTL and length have ten (RFC 1035 section 3.2.1).
 const MOST_OF_ROOT: usize = 1 + 10 + 65_535;
 
 /// Data whose length has 16 bits, or `None` where they have more.
@@ -61,7 +62,8 @@ fn fitting(rdata: RData) -> Option<RData>
     }
 }
 
-/// Data in the form of their type, of no more bytes than their length can tell. `end` is the place where a word is missing.
+/// Data in the form of their type, of no more bytes than their length can tell. `end` is the place where a word is
+/// missing.
 fn data_within(
     alloc: Global,
     record_type: RecordType,
@@ -71,8 +73,11 @@ fn data_within(
 ) -> Result<RData, TextError>
     ensures form { IfOk result (λ rdata. type_of rdata ≡ record_type) }
     ensures fits { IfOk result (λ rdata. data_len rdata ≤ 65535) }
-    ensures spelled { IfOk result (λ rdata. IsData (option_copied origin.entry) record_type words.now (data_octets rdata)) }
-    ensures refused { IfErr result (λ e. e ≢ Memory → HasNone (λ rdata. IsData (option_copied origin.entry) record_type words.now (data_octets rdata) × (data_len rdata ≤ 65535))) }
+    ensures spelled { IfOk result (λ rdata. IsData (option_copied origin.entry) record_type words.now
+        (data_octets rdata)) }
+    ensures refused { IfErr result
+        (λ e. e ≢ Memory → HasNone (λ rdata. IsData (option_copied origin.entry) record_type words.now
+        (data_octets rdata) × (data_len rdata ≤ 65535))) }
 {
     // What words spell, they spell in one way, and data have as many bytes as they take in full.
     words_spell_once();
@@ -106,8 +111,9 @@ fn begin_generic(words: &[Word<'_>]) -> bool
     }
 }
 
-/// The data of a type that these words are, in any form that it has, of no more bytes than their length can tell. `end` is the place where a word is
-/// missing. Names that are not fully qualified are relative to the origin, and without one a fault.
+/// The data of a type that these words are, in any form that it has, of no more bytes than their length can tell. `end`
+/// is the place where a word is missing. Names that are not fully qualified are relative to the origin, and without one
+/// a fault.
 pub fn data_of_words(
     alloc: Global,
     record_type: RecordType,
@@ -118,7 +124,8 @@ pub fn data_of_words(
     ensures form { IfOk result (λ rdata. type_of rdata ≡ record_type) }
     ensures fits { IfOk result (λ rdata. data_len rdata ≤ 65535) }
     ensures spelled { IfOk result (SpellsData (option_copied origin.entry) record_type words.now) }
-    ensures refused { IfErr result (λ e. e ≢ Memory → HasNone (SpellsData (option_copied origin.entry) record_type words.now)) }
+    ensures refused { IfErr result
+        (λ e. e ≢ Memory → HasNone (SpellsData (option_copied origin.entry) record_type words.now)) }
 {
     if begin_generic(words) {
         return read_generic(alloc, record_type, &words[1], &words[2..]);
@@ -134,8 +141,8 @@ pub(crate) fn data_of(
 ) -> Result<RData, TextError>
     ensures form { IfOk result (λ rdata. type_of rdata ≡ record_type) }
     ensures fits { IfOk result (λ rdata. data_len rdata ≤ 65535) }
-    ensures spelled { IfOk result (HasData None record_type words.old.kind words.old.text words.old.place words.old.depth) }
-    ensures refused { IfErr result (λ e. e ≢ Memory → HasNone (HasData None record_type words.old.kind words.old.text words.old.place words.old.depth)) }
+    ensures spelled { IfOk result (HasData None record_type words.old) }
+    ensures refused { IfErr result (λ e. e ≢ Memory → HasNone (HasData None record_type words.old)) }
 {
     // Words stand in a text in one way, and the same ones are the same parameters.
     words_stand_once();
@@ -146,17 +153,19 @@ pub(crate) fn data_of(
 
 /// Reads the data of a record of this type (RFC 1035 section 5.1).
 ///
-/// What data are made of is told by the table of types: numbers, names, addresses, character strings in quotes or not, times in seconds or as
-/// `1h30m`, bytes as hexadecimal digits or in base 64. Names are fully qualified. Data of any type may be `\#`, their length, and two
-/// hexadecimal digits for each byte, which blanks may stand between; of a type that has no form in the table they have to be (RFC 3597
-/// section 5). Then no bytes are `RData::Update0`, but for an OPT record, and names may not be compressed. Data have at most 65,535 bytes.
+/// What data are made of is told by the table of types: numbers, names, addresses, character strings in quotes or not,
+/// times in seconds or as `1h30m`, bytes as hexadecimal digits or in base 64. Names are fully qualified. Data of any
+/// type may be `\#`, their length, and two hexadecimal digits for each byte, which blanks may stand between; of a type
+/// that has no form in the table they have to be (RFC 3597 section 5). Then no bytes are `RData::Update0`, but for an
+/// OPT record, and names may not be compressed. Data have at most 65,535 bytes.
 ///
 /// What is refused, but for want of memory, is no data of the type.
 pub fn read_data(alloc: Global, record_type: RecordType, text: &str) -> Result<RData, TextError>
     ensures form { IfOk result (λ rdata. type_of rdata ≡ record_type) }
     ensures fits { IfOk result (λ rdata. data_len rdata ≤ 65535) }
-    ensures spelled { IfOk result (HasData None record_type Line text.now 0 0) }
-    ensures refused { IfErr result (λ e. e ≢ Memory → HasNone (HasData None record_type Line text.now 0 0)) }
+    ensures spelled { IfOk result (HasData None record_type (words_left Line text.now 0 0)) }
+    ensures refused { IfErr result
+        (λ e. e ≢ Memory → HasNone (HasData None record_type (words_left Line text.now 0 0))) }
 {
     data_of(alloc, record_type, &mut Words::new(text))
 }

@@ -60,7 +60,8 @@ fn put_options(options: &[EdnsOption], bytes: &mut Vec<u8>) -> Result<(), AllocE
 
 /// Puts a mail exchange behind bytes (RFC 1035 section 3.3.9).
 fn put_mx(mx: &MX, bytes: &mut Vec<u8>) -> Result<(), AllocError>
-    ensures { OnOk result (bytes.new.items ≡ bytes.old.items ++ (to_be_bytes w16 mx.now.preference ++ name_octets mx.now.exchange.labels)) }
+    ensures { OnOk result (bytes.new.items ≡ bytes.old.items ++
+        (to_be_bytes w16 mx.now.preference ++ name_octets mx.now.exchange.labels)) }
 {
     write_u16(bytes, mx.preference)?;
     write_name(bytes, &mx.exchange)
@@ -153,7 +154,8 @@ fn is_form(
     data: &[u8],
 ) -> Result<bool, AllocError>
     requires { IsFormed rdata.now }
-    ensures { IfOk result (λ is. IsTrue is ↔ ((type_of rdata.now ≡ record_type) × (data_octets rdata.now ≡ «data».now))) }
+    ensures { IfOk result (λ is. IsTrue is ↔
+        ((type_of rdata.now ≡ record_type) × (data_octets rdata.now ≡ «data».now))) }
 {
     if rdata.record_type() != record_type {
         return Ok(false);
@@ -197,7 +199,9 @@ fn data_of_bytes(
     ensures form { IfOk result (λ rdata. type_of rdata ≡ record_type) }
     ensures read { IfOk result (AreReadOf record_type «data».now) }
     ensures in_full { IfOk result (λ rdata. data_octets rdata ≡ «data».now) }
-    ensures refused { IfErr result (λ e. e ≢ Memory → HasNone (λ rdata. AreReadOf record_type «data».now rdata × (type_of rdata ≡ record_type) × (data_octets rdata ≡ «data».now))) }
+    ensures refused { IfErr result
+        (λ e. e ≢ Memory → HasNone (λ rdata. AreReadOf record_type «data».now rdata × (type_of rdata ≡ record_type) ×
+        (data_octets rdata ≡ «data».now))) }
 {
     let rdata = data_read(alloc, record_type, len, data, place)?;
     if is_form(alloc, &rdata, record_type, data)? {

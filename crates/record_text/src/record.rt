@@ -17,11 +17,11 @@ pub fn class_of(word: &Word<'_>) -> Result<DNSClass, TextError> {
     text.parse::<DNSClass>().map_err(|_| unknown)
 }
 
-/// Reads a record from a line of a zone's text (RFC 1035 section 5.1): owner name, TTL in seconds, class, type and data, with blanks
-/// between, as `www.example.com. 3600 IN A 192.0.2.1`. A comment may stand behind it, from `;` on.
+/// Reads a record from a line of a zone's text (RFC 1035 section 5.1): owner name, TTL in seconds, class, type and
+/// data, with blanks between, as `www.example.com. 3600 IN A 192.0.2.1`. A comment may stand behind it, from `;` on.
 ///
-/// All fields have to be there, and names are fully qualified. What data are made of is told at [`read_data`](crate::read_data). Nothing
-/// is known of the record's proof.
+/// All fields have to be there, and names are fully qualified. What data are made of is told at
+/// [`read_data`](crate::read_data). Nothing is known of the record's proof.
 pub fn read_record(alloc: Global, line: &str) -> Result<Record, TextError>
     ensures owner { IfOk result (λ r. r.name.is_fqdn ≡ true) }
     ensures unproved { IfOk result (λ r. r.proof ≡ Indeterminate) }

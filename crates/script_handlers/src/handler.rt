@@ -10,7 +10,7 @@ use hickory_base::zone_store::{
     NxProofKind, ZoneHandler, ZoneTransfer, ZoneType,
 };
 use hickory_store::blocklist::BlocklistZoneHandler;
-use hickory_store::sqlite::SqliteZoneHandler;
+use hickory_store::updates::UpdatableZoneHandler;
 use hickory_wire::{
     LowerName, Name, RecordType, ResponseCode, TSigResponseContext, TSigResponseKind,
 };
@@ -26,7 +26,7 @@ pub enum Source {
     /// A list of blocked names.
     Blocklist(BlocklistZoneHandler),
     /// A zone that takes dynamic updates.
-    Updatable(SqliteZoneHandler<ZoneVerifier>),
+    Updatable(UpdatableZoneHandler<ZoneVerifier>),
 }
 
 /// A handler: what it tells of itself, and what it answers by.
@@ -76,7 +76,8 @@ fn count(last: &LookupControlFlow<AuthLookup<'_>>) -> usize {
     }
 }
 
-/// A part's answer to a call. One that could not be noted has none: want of memory is told, and not what the script says.
+/// A part's answer to a call. One that could not be noted has none: want of memory is told, and not what the script
+/// says.
 fn given<'z>(
     part: &Part,
     alloc: Global,

@@ -9,7 +9,7 @@ ghost use Rattle.script_handlers.specs.Signatures.{signature_by};
 use crate::signer::ScriptedSigner;
 use crate::verifier::ScriptedVerifier;
 use hickory_catalog::signer::{ReplySigner, SignError};
-use hickory_store::sqlite::{Verifier, VerifyError};
+use hickory_store::updates::{Verifier, VerifyError};
 use hickory_wire::{Boxed, Name, Record, TSIG, TSigResponseContext};
 use script_values::fault::Fault;
 use std::alloc::Global;

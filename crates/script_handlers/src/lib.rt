@@ -1,5 +1,5 @@
-//! What a script's server is made of: the handlers, the zone whose records are given, the signer, the sink and the verifier; and what a script has said
-//! of zones and of the server so far.
+//! What a script's server is made of: the handlers, the zone whose records are given, the signer, the sink and the
+//! verifier; and what a script has said of zones and of the server so far.
 #![tactic(auto)]
 
 pub mod asked;

@@ -4,7 +4,7 @@ ghost use Rattle.std.specs.List.{list_any};
 ghost use Rattle.wire_names.specs.rr.domain.NameOrder.{name_eq};
 
 use crate::calls::CallLog;
-use hickory_store::sqlite::{Verifier, VerifyError};
+use hickory_store::updates::{Verifier, VerifyError};
 use hickory_wire::Name;
 use std::alloc::Global;
 use std::ops::Range;

@@ -79,8 +79,8 @@ fn want_of_memory(e: CatalogError) -> &'static str {
     }
 }
 
-/// Puts the calls and the replies behind a text, where the catalog told so. That it lacked memory is what is printed where
-/// a scripted handler, or a scripted signer, was to answer so.
+/// Puts the calls and the replies behind a text, where the catalog told so. That it lacked memory is what is printed
+/// where a scripted handler, or a scripted signer, was to answer so.
 fn print_outcome(
     zones: &Zones,
     alloc: Global,

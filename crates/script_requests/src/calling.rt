@@ -302,7 +302,8 @@ fn make_typed_call(
     call_for_word(handler, alloc, call, name, words, out)
 }
 
-/// The bytes of the request for a transfer that words tell: by the name of its zone, or in hex digits, which may be signed.
+/// The bytes of the request for a transfer that words tell: by the name of its zone, or in hex digits, which may be
+/// signed.
 fn transfer_bytes(alloc: Global, words: &[&str]) -> Result<Vec<u8>, Fault> {
     match words {
         [name] => message(alloc, &[name, "AXFR"], CALL_USAGE),

@@ -1,4 +1,5 @@
-//! What a script asks of its server and of its handlers, and what they answer; zones that take dynamic updates, and the updates.
+//! What a script asks of its server and of its handlers, and what they answer; zones that take dynamic updates, and the
+//! updates.
 #![tactic(auto)]
 
 pub mod asking;

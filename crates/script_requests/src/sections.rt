@@ -1,4 +1,5 @@
-//! The sections of a dynamic update, as `nsupdate` has them, and what a zone answers of them (RFC 2136 sections 2 and 3).
+//! The sections of a dynamic update, as `nsupdate` has them, and what a zone answers of them (RFC 2136 sections 2 and
+//! 3).
 
 use crate::updatable::{last_updatable, print_code};
 use hickory_base::errors::UpdateFault;

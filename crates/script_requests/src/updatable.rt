@@ -3,7 +3,7 @@
 use crate::asking::print_calls;
 use hickory_base::errors::UpdateFault;
 use hickory_base::zone_store::{AxfrPolicy, ZoneHandler};
-use hickory_store::sqlite::SqliteZoneHandler;
+use hickory_store::updates::UpdatableZoneHandler;
 use hickory_wire::{Name, ResponseCode, TSigResponseContext, TSigResponseKind};
 use script_handlers::handler::{Handler, Source};
 use script_handlers::held::{push, put_in};
@@ -20,7 +20,7 @@ use std::ops::Range;
 use tsig::TsigVerifier;
 
 /// A zone that takes updates, with the verifier of a script.
-pub type UpdatableZone = SqliteZoneHandler<ZoneVerifier>;
+pub type UpdatableZone = UpdatableZoneHandler<ZoneVerifier>;
 
 /// How `transfers` is written.
 pub const TRANSFERS_USAGE: &str = "transfers deny|allow-all|allow-signed";
@@ -85,7 +85,7 @@ fn updatable(
     let log = zones.log.share()?;
     let in_memory = zone.zone(alloc)?;
     let verifier = ZoneVerifier::Scripted(ScriptedVerifier::without_keys(alloc, log));
-    let zone = SqliteZoneHandler::new(in_memory, policy, allow_update, verifier);
+    let zone = UpdatableZoneHandler::new(in_memory, policy, allow_update, verifier);
     handler_of(zone).map_err(Fault::from)
 }
 
@@ -258,8 +258,8 @@ fn code_of(answer: &Result<(), UpdateFault>) -> Option<ResponseCode> {
     }
 }
 
-/// Puts the response code of an answer behind a text. Want of memory is what is told where the verifier was to answer so,
-/// and else it is refused.
+/// Puts the response code of an answer behind a text. Want of memory is what is told where the verifier was to answer
+/// so, and else it is refused.
 pub fn print_code(
     zones: &Zones,
     alloc: Global,

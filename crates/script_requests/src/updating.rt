@@ -213,8 +213,8 @@ fn read_requests(
     Ok(())
 }
 
-/// Puts behind a text whether all requests had their turn. Want of memory is what is told where the verifier was to answer
-/// so, and else it is refused.
+/// Puts behind a text whether all requests had their turn. Want of memory is what is told where the verifier was to
+/// answer so, and else it is refused.
 fn print_all(zones: &Zones, alloc: Global, out: &mut Output, answer: Result<(), usize>) {
     let wants_memory = print_calls(zones, alloc, out);
     match answer {

@@ -1,5 +1,5 @@
-//! Values and messages from the words of a script, and what is told of them: names, records, codes, networks, messages in bytes, queries and requests;
-//! replies that are put together part by part.
+//! Values and messages from the words of a script, and what is told of them: names, records, codes, networks, messages
+//! in bytes, queries and requests; replies that are put together part by part.
 #![tactic(auto)]
 
 pub mod codes;

@@ -22,8 +22,8 @@ pub fn setting<'w>(word: &'w str) -> (&'w str, Option<&'w str>) {
     }
 }
 
-/// Sets the flag of a header that a word names by its mnemonic, and tells whether it names one. That of a response is none of them, since a
-/// message begins as a query or as a response.
+/// Sets the flag of a header that a word names by its mnemonic, and tells whether it names one. That of a response is
+/// none of them, since a message begins as a query or as a response.
 pub fn set_flag(metadata: &mut Metadata, word: &str) -> bool {
     match word {
         "aa" => metadata.authoritative = true,

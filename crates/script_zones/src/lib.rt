@@ -1,4 +1,5 @@
-//! Zones, lists of blocked names and chains of handlers from the words of a script, and the settings of the server that serves them.
+//! Zones, lists of blocked names and chains of handlers from the words of a script, and the settings of the server that
+//! serves them.
 #![tactic(auto)]
 
 pub mod chains;

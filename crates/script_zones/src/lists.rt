@@ -236,7 +236,8 @@ fn before_fails(text: &str) -> Option<&str> {
     }
 }
 
-/// Adds the strings of a text to the list that stands last in the chain, read one by one; the reader then ends or fails.
+/// Adds the strings of a text to the list that stands last in the chain, read one by one; the reader then ends or
+/// fails.
 fn block_strings(zones: &mut Zones, alloc: Global, text: &str, fails: bool) -> Result<(), Fault> {
     let data = read_data(alloc, RecordType::TXT, text)?;
     let added = match &data {

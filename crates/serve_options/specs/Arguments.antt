@@ -78,8 +78,8 @@ transfer_keys_of settings = map (λ it. it.0.now) settings.transfer_keys.items
 abbrev pub no_groups_of : Settings → List (List ℕ)
 no_groups_of settings = if settings.no_groups then [] ∷ [] else []
 
--- What options say: zones, lists, networks, keys, rules of updates and journals are those that the texts behind their options spell, in their order; `--nsid`, `--max-udp`,
--- `--keys` and `--no-groups` stand once at most.
+-- What options say: zones, lists, networks, keys, rules of updates and journals are those that the texts behind their
+-- options spell, in their order; `--nsid`, `--max-udp`, `--keys` and `--no-groups` stand once at most.
 pub record OptionsSay (options : Options) (settings : Settings) : Type 0 where
   pub known : AllByRecursion (λ option. Contains option_names option.0) options
   pub zones : AllZip IsZoneText (behind (codes "--zone") options) settings.zones.items
@@ -104,7 +104,8 @@ Takes option text old new = (options : Options) → OptionsSay options old → O
 abbrev pub IsOfOneProcess : Settings → Type 0
 IsOfOneProcess settings = (settings.mode ≡ Lines) ⊎ (settings.journals.items ≡ [])
 
--- What the arguments say: they are options, each with what stands behind it if anything does, and the word for the mode.
+-- What the arguments say: they are options, each with what stands behind it if anything does, and the word for the
+-- mode.
 pub record ArgumentsSay (arguments : List (List ℕ)) (settings : Settings) : Type 0 where
   pub options : Options
   pub words : arguments ≡ words_of options ++ mode_word settings.mode ∷ []

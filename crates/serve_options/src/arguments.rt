@@ -124,7 +124,8 @@ pub enum ArgumentFault<'a> {
         /// What is wrong with it.
         fault: IpNetTextError,
     },
-    /// What stands behind `--max-udp` is no number of bytes that a reply over UDP may always have (RFC 1035 section 4.2.1).
+    /// What stands behind `--max-udp` is no number of bytes that a reply over UDP may always have (RFC 1035 section
+    /// 4.2.1).
     #[error("argument {place}: not a number from 512 to 65535")]
     MaxUdp {
         /// Which argument it is.

@@ -43,8 +43,9 @@ fn some_keys(alloc: Global, text: &str) -> Result<Keys, KeysFault>
     }
 }
 
-/// The keys that the bytes of a file have, of which there is one at least. Each has a secret, and names that differ, letter case aside. The forms of the
-/// text are those of [`read_keys`]: BIND's `key` statements, Knot's `key` section, and lines as `dig -y` takes them.
+/// The keys that the bytes of a file have, of which there is one at least. Each has a secret, and names that differ,
+/// letter case aside. The forms of the text are those of [`read_keys`]: BIND's `key` statements, Knot's `key` section,
+/// and lines as `dig -y` takes them.
 pub fn keys_of_file(alloc: Global, bytes: &[u8]) -> Result<Keys, KeysFault>
     ensures usable { IfOk result (λ keys. All IsUsable keys) }
     ensures some { IfOk result (λ keys. keys ≢ []) }

@@ -28,7 +28,8 @@ fn all_of_ipv6() -> Result<IpNet, AllocError>
     }
 }
 
-/// These networks, and the two of all addresses, so that of denied networks they leave allowed what is allowed by a longer prefix alone.
+/// These networks, and the two of all addresses, so that of denied networks they leave allowed what is allowed by a
+/// longer prefix alone.
 pub fn with_all(alloc: Global, networks: &[IpNet]) -> Result<Vec<IpNet>, AllocError>
     ensures { IfOk result (λ made. made.items ≡ networks.now ++ all_networks) }
 {

@@ -5,7 +5,7 @@ use Rattle.std.specs.List.{AllZip}
 use Rattle.either.specs.declared.Either.TheVariants.{Left, Right}
 use Rattle.hickory_catalog.specs.declared.catalog.Catalog.{Catalog}
 use Rattle.hickory_zone.specs.declared.zone_with_parent.ZoneWithParent.{ZoneWithParent}
-use Rattle.hickory_store.specs.BlockAnswers.{Blocklist}
+use Rattle.hickory_store.specs.blocklist.BlockAnswers.{Blocklist}
 use Rattle.std.specs.Global.{Global}
 use Rattle.std.specs.declared.rc.Rc.{Rc}
 use Rattle.tsig.specs.declared.keys.Key.{Key}

@@ -3,7 +3,7 @@ use Rattle.std.specs.Prelude.{◌≡◌, ◌⊎◌, ◌∷◌, ◌++◌, Bool, f
 use Rattle.either.specs.declared.Either.TheVariants.{Left, Right}
 use Rattle.wire_names.specs.rr.domain.DomainName.{DomainName}
 use Rattle.wire_names.specs.rr.domain.NameOrder.{lower_name}
-use Rattle.hickory_catalog.specs.Zones.{ChangesAt}
+use Rattle.hickory_catalog.specs.zones.Zones.{ChangesAt}
 use Rattle.served_updates.specs.Moved.{UpdatedChain, UpdatedHandler}
 use Rattle.served_updates.specs.declared.updated_zone.UpdatedZone.{UpdatedZone}
 
@@ -43,11 +43,13 @@ pub record HoldsAt {D : Type 0} (holds : Bool) (apex : DomainName) (old new : Li
 abbrev pub Holds : {D : Type 0} → Bool → DomainName → List (DomainName × UpdatedChain D) → List (DomainName × UpdatedChain D) → Type 0
 Holds holds apex old new = HoldsAt holds apex old new ⊎ ChangesAt old (lower_name apex) None None new
 
--- The zone of this apex may hold its updates from then on, or not, as where its journal takes no entries; all else is as it was.
+-- The zone of this apex may hold its updates from then on, or not, as where its journal takes no entries; all else is
+-- as it was.
 abbrev pub Begins : {D : Type 0} → DomainName → List (DomainName × UpdatedChain D) → List (DomainName × UpdatedChain D) → Type 0
 Begins apex old new = (holds : Bool) × Holds holds apex old new
 
--- The zone of this apex holds nothing any more. (A zone that holds nothing is kept by its journal: the invariant of `HoldingZone`.)
+-- The zone of this apex holds nothing any more. (A zone that holds nothing is kept by its journal: the invariant of
+-- `HoldingZone`.)
 abbrev pub Settles : {D : Type 0} → DomainName → List (DomainName × UpdatedChain D) → List (DomainName × UpdatedChain D) → Type 0
 Settles apex old new = Holds false apex old new
 

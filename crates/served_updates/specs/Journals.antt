@@ -5,14 +5,15 @@ use Rattle.sqlite_disk.specs.declared.Disk.{Ghosts as DiskGhosts}
 use Rattle.tsig.specs.declared.verifier.TsigVerifier.{TsigVerifier}
 use Rattle.wire_names.specs.rr.domain.DomainName.{DomainName}
 use Rattle.wire_names.specs.rr.domain.NameOrder.{lower_name}
-use Rattle.hickory_catalog.specs.Zones.{ChangesAt}
+use Rattle.hickory_catalog.specs.zones.Zones.{ChangesAt}
 use Rattle.durable_updates.specs.Versions.{AreFollowed}
 use Rattle.served_updates.specs.Moved.{UpdatedChain}
 use Rattle.served_updates.specs.declared.updated_zone.UpdatedZone.{UpdatedZone}
 
 module _ {D : Type 0} (disks : DiskGhosts D) (first second : D) where
-  -- The zone is the one that the journal in two files makes of what it was before, and has this journal from then on; the differences that it keeps lead to
-  -- it from versions that the journal tells of. Nothing else of the handler changes.
+  -- The zone is the one that the journal in two files makes of what it was before, and has this journal from then on;
+  -- the differences that it keeps lead to it from versions that the journal tells of. Nothing else of the handler
+  -- changes.
   pub record IsJournalled {V : Type 0} (old new : UpdatedZone V D) : Type 0 where
     pub followed : AreFollowed disks first second old.zone.kept.updatable.zone new.zone.history new.zone.kept.updatable.zone
     pub others : new ≡ record old { zone = record { kept = record { updatable = record old.zone.kept.updatable { zone = new.zone.kept.updatable.zone }; is_journalled = true; holds = false }; history = new.zone.history } }

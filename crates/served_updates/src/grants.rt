@@ -77,8 +77,8 @@ fn rule_of(alloc: Global, text: &str) -> Result<Rule, GrantFault>
     }
 }
 
-/// The rule of a zone that two texts spell: the name of the zone, with or without a dot at its end, and the rule, as [`read_grant`] takes it. Its key is one
-/// of these.
+/// The rule of a zone that two texts spell: the name of the zone, with or without a dot at its end, and the rule, as
+/// [`read_grant`] takes it. Its key is one of these.
 pub fn zone_grant(alloc: Global, keys: &Keys, zone: &str, rule: &str) -> Result<Grant, GrantFault>
     ensures apex { IfOk result (λ grant. IsApexText zone.now grant.apex) }
     ensures rule { IfOk result (λ grant. (words : List (List ℕ)) × IsRule words grant.rule) }

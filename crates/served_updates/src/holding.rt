@@ -49,7 +49,8 @@ fn settled<D: Disk + Drop>(alloc: Global, handler: Handler<D>) -> (Handler<D>, b
     }
 }
 
-/// Writes the updates that the first handler of a chain holds; whether it holds none any more. After an error it is gone.
+/// Writes the updates that the first handler of a chain holds; whether it holds none any more. After an error it is
+/// gone.
 fn settle_first<D: Disk + Drop>(
     alloc: Global,
     chain: &mut Vec<Handler<D>>,
@@ -64,8 +65,9 @@ fn settle_first<D: Disk + Drop>(
     Ok(done)
 }
 
-/// Has the zone of this apex hold updates from now on, until they are settled: they are judged and made in memory, one after the other, and written together.
-/// Whoever calls it gives no answer before that. A zone without a journal, or whose journal takes no updates, holds none. After an error the zone may be gone.
+/// Has the zone of this apex hold updates from now on, until they are settled: they are judged and made in memory, one
+/// after the other, and written together. Whoever calls it gives no answer before that. A zone without a journal, or
+/// whose journal takes no updates, holds none. After an error the zone may be gone.
 pub fn hold_updates<D: Disk + Drop>(
     alloc: Global,
     zones: &mut Zones<D>,
@@ -85,8 +87,9 @@ pub fn hold_updates<D: Disk + Drop>(
     }
 }
 
-/// Writes the updates that the zone of this apex holds, all or none, with two syncs; whether that is done. Where it is not, none of them is to be acknowledged,
-/// and the zone in memory is ahead of its journal, which is to be opened anew. After an error the zone may be gone.
+/// Writes the updates that the zone of this apex holds, all or none, with two syncs; whether that is done. Where it is
+/// not, none of them is to be acknowledged, and the zone in memory is ahead of its journal, which is to be opened anew.
+/// After an error the zone may be gone.
 pub fn settle_updates<D: Disk + Drop>(
     alloc: Global,
     zones: &mut Zones<D>,
@@ -121,8 +124,9 @@ pub fn hold_all<D: Disk + Drop>(
     Ok(())
 }
 
-/// Writes the updates that the zones of these apexes hold, one zone after the other, as [`settle_updates`] does: of each all or none. `None` where all is
-/// written; else the place of the first zone whose updates are not, and those behind it were not tried. After an error a zone may be gone.
+/// Writes the updates that the zones of these apexes hold, one zone after the other, as [`settle_updates`] does: of
+/// each all or none. `None` where all is written; else the place of the first zone whose updates are not, and those
+/// behind it were not tried. After an error a zone may be gone.
 pub fn settle_all<D: Disk + Drop>(
     alloc: Global,
     zones: &mut Zones<D>,

@@ -11,7 +11,7 @@ use crate::moving::{Handler, Zones};
 use crate::updated_zone::{LEAST_RECORDS, UpdatedZone};
 use durable_updates::{CompactError, OpenError, RedoError, SnapshotError};
 use either::Either;
-use hickory_store::sqlite::Verifier;
+use hickory_store::updates::Verifier;
 use hickory_wire::{LowerName, Name};
 use incremental_zone::IncrementalZone;
 use sqlite_disk::Disk;
@@ -26,7 +26,8 @@ pub struct Opened {
     pub file: u32,
     /// The serial of the zone by its journal.
     pub journal: u32,
-    /// Whether the journal takes updates: not where it could not be compacted for want of room or another failure of the disk.
+    /// Whether the journal takes updates: not where it could not be compacted for want of room or another failure of
+    /// the disk.
     pub takes_updates: bool,
 }
 
@@ -37,7 +38,8 @@ pub enum JournalState {
     Open,
     /// It takes no updates any more, as after a write that failed: each is ServFail until it is opened again.
     Shut,
-    /// It was to be compacted, and could not be, for want of memory or since the zone does not read back. It takes updates, and is compacted once it is twice as long.
+    /// It was to be compacted, and could not be, for want of memory or since the zone does not read back. It takes
+    /// updates, and is compacted once it is twice as long.
     Long(JournalFault),
 }
 
@@ -142,8 +144,8 @@ fn compact<V: Verifier, D: Disk + Drop>(alloc: Global, zone: &mut UpdatedZone<V,
     }
 }
 
-/// Compacts the journal of a zone where it is to be; whether it takes updates from then on. A failure of the disk leaves the zone as it is, and is no fault: its
-/// queries go on.
+/// Compacts the journal of a zone where it is to be; whether it takes updates from then on. A failure of the disk
+/// leaves the zone as it is, and is no fault: its queries go on.
 fn compacted<V: Verifier, D: Disk + Drop>(
     alloc: Global,
     zone: &mut UpdatedZone<V, D>,
@@ -188,13 +190,16 @@ fn open_in_chain<D: Disk + Drop>(
     })
 }
 
-/// Opens the journal of the zone of this apex, which takes updates, in two files by turns, as [`IncrementalZone::open`] does, and compacts it where it is to be, as
-/// `HoldingZone::needs_compaction` tells: where it never was, so that from then on the zone as it was before counts for nothing, and where it is long for its
-/// zone. Each update is on the disk before it is answered (RFC 2136 section 3.5). What the last updates changed that the journal had behind its snapshot is kept,
-/// up to as many records of transfers as the zone of the snapshot has record sets (RFC 1995 section 5), and up to 200 of a smaller one.
+/// Opens the journal of the zone of this apex, which takes updates, in two files by turns, as [`IncrementalZone::open`]
+/// does, and compacts it where it is to be, as `HoldingZone::needs_compaction` tells: where it never was, so that from
+/// then on the zone as it was before counts for nothing, and where it is long for its zone. Each update is on the disk
+/// before it is answered (RFC 2136 section 3.5). What the last updates changed that the journal had behind its snapshot
+/// is kept, up to as many records of transfers as the zone of the snapshot has record sets (RFC 1995 section 5), and up
+/// to 200 of a smaller one.
 ///
-/// Where one of the files is no journal's, nothing is written to it. A disk that fails while the journal is compacted is told by `takes_updates`: the zone is
-/// served as its journal says, and each update is ServFail. After an error the zone may be gone.
+/// Where one of the files is no journal's, nothing is written to it. A disk that fails while the journal is compacted
+/// is told by `takes_updates`: the zone is served as its journal says, and each update is ServFail. After an error the
+/// zone may be gone.
 pub fn open_journal<D: Disk + Drop>(
     alloc: Global,
     zones: &mut Zones<D>,
@@ -300,8 +305,9 @@ fn compact_at<D: Disk + Drop>(
     }
 }
 
-/// Compacts the journal of the zone of this apex where it is to be, as `HoldingZone::needs_compaction` tells, and tells how it is then. The zone and the differences that
-/// it keeps stay, whatever comes of it. Where it is not to be compacted the zone is looked at alone. After an error the zone may be gone.
+/// Compacts the journal of the zone of this apex where it is to be, as `HoldingZone::needs_compaction` tells, and tells
+/// how it is then. The zone and the differences that it keeps stay, whatever comes of it. Where it is not to be
+/// compacted the zone is looked at alone. After an error the zone may be gone.
 pub fn compact_due<D: Disk + Drop>(
     alloc: Global,
     zones: &mut Zones<D>,

@@ -11,7 +11,7 @@ use durable_zone::DurableZone;
 use either::Either;
 use hickory_base::zone_store::AxfrPolicy;
 use hickory_catalog::catalog::Catalog;
-use hickory_store::sqlite::SqliteZoneHandler;
+use hickory_store::updates::UpdatableZoneHandler;
 use hickory_wire::{LowerName, Name};
 use hickory_zone::ZoneWithParent;
 use served_zones::handler;
@@ -23,7 +23,8 @@ use std::rc::Rc;
 use tsig::{Keys, TsigVerifier};
 use update_policy::Policy;
 
-/// A handler of a chain: a zone that takes updates, whose journal, if it has one, is in files of this type, or a handler of a server without.
+/// A handler of a chain: a zone that takes updates, whose journal, if it has one, is in files of this type, or a
+/// handler of a server without.
 pub type Handler<D> = Either<UpdatedZone<TsigVerifier, D>, handler::Handler>;
 
 /// A catalog of such chains, whose replies a server with keys signs.
@@ -32,7 +33,8 @@ pub type Zones<D> = Catalog<LeftToServer, Handler<D>>;
 /// Why zones cannot take updates.
 #[derive(Clone, Copy, Debug, PartialEq, Eq)]
 pub enum MoveFault {
-    /// The zone is shared: a zone right below it is served too, whose DS records it answers (RFC 4035 section 3.1.4.1), and would not see it change.
+    /// The zone is shared: a zone right below it is served too, whose DS records it answers (RFC 4035 section 3.1.4.1),
+    /// and would not see it change.
     Shared {
         /// Which of the zones it is; the first is 0.
         place: usize,
@@ -79,7 +81,7 @@ fn updated<D: Disk + Drop>(
         keys: keys.copied(alloc)?,
     };
     let zone = zone.into_in_memory();
-    let updatable = SqliteZoneHandler::new(zone, AxfrPolicy::AllowAll, true, verifier);
+    let updatable = UpdatableZoneHandler::new(zone, AxfrPolicy::AllowAll, true, verifier);
     let zone = DurableZone::in_memory(updatable);
     Ok(Either::Left(UpdatedZone::new(alloc, zone, parent, policy)))
 }
@@ -110,7 +112,8 @@ fn chain_as<D: Disk + Drop>(
     apex: &Name,
     chain: Vec<handler::Handler>,
 ) -> Result<Vec<Handler<D>>, Unmoved>
-    ensures { IfOk result (λ made. AllZip (IsServedAs keys.now (rules_for grants.now apex.now)) chain.items made.items) }
+    ensures { IfOk result (λ made. AllZip (IsServedAs keys.now (rules_for grants.now apex.now)) chain.items
+        made.items) }
 {
     let mut made = Vec::new(alloc);
     for handler in chain {
@@ -129,7 +132,9 @@ fn move_zone<D: Disk + Drop>(
     zones: &mut handler::Zones,
     made: &mut Zones<D>,
 ) -> Result<(), Unmoved>
-    ensures moved { OnOk result (Moves keys.now (rules_for grants.now apex.now) apex.now zones.old.zones zones.new.zones made.old.zones made.new.zones) }
+    ensures moved { OnOk result (Moves keys.now (rules_for grants.now apex.now) apex.now
+        (record { fixed = zones.old.zones; updated = made.old.zones })
+        (record { fixed = zones.new.zones; updated = made.new.zones })) }
     ensures others { made.new ≡ record made.old { zones = made.new.zones } }
 {
     let name = LowerName::new(alloc, apex)?;
@@ -153,7 +158,9 @@ fn move_loaded<D: Disk + Drop>(
     zones: &mut handler::Zones,
     made: &mut Zones<D>,
 ) -> Result<(), MoveFault>
-    ensures moved { OnOk result (Moves keys.now (rules_for grants.now loaded.now.apex) loaded.now.apex zones.old.zones zones.new.zones made.old.zones made.new.zones) }
+    ensures moved { OnOk result (Moves keys.now (rules_for grants.now loaded.now.apex) loaded.now.apex
+        (record { fixed = zones.old.zones; updated = made.old.zones })
+        (record { fixed = zones.new.zones; updated = made.new.zones })) }
     ensures others { made.new ≡ record made.old { zones = made.new.zones } }
 {
     match move_zone(alloc, keys, grants, &loaded.apex, zones, made) {
@@ -163,8 +170,9 @@ fn move_loaded<D: Disk + Drop>(
     }
 }
 
-/// Moves zones that were loaded from the catalog of a server without updates to that of a server with them, in their order, each with the rules that are of
-/// it: a zone that has one takes updates by these keys, in memory alone, and all others are served as they were. After an error some are moved.
+/// Moves zones that were loaded from the catalog of a server without updates to that of a server with them, in their
+/// order, each with the rules that are of it: a zone that has one takes updates by these keys, in memory alone, and all
+/// others are served as they were. After an error some are moved.
 pub fn move_zones<D: Disk + Drop>(
     alloc: Global,
     keys: &Keys,
@@ -173,7 +181,9 @@ pub fn move_zones<D: Disk + Drop>(
     zones: &mut handler::Zones,
     made: &mut Zones<D>,
 ) -> Result<(), MoveFault>
-    ensures moved { OnOk result (AreMoved keys.now grants.now loaded.now zones.old.zones zones.new.zones made.old.zones made.new.zones) }
+    ensures moved { OnOk result (AreMoved keys.now grants.now loaded.now
+        (record { fixed = zones.old.zones; updated = made.old.zones })
+        (record { fixed = zones.new.zones; updated = made.new.zones })) }
     ensures others { made.new ≡ record made.old { zones = made.new.zones } }
 {
     let mut place = 0usize;

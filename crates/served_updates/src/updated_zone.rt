@@ -1,11 +1,12 @@
-//! A zone that takes the updates that its rules grant, with a journal or in memory alone, and keeps what they change, beside the zone above it.
+//! A zone that takes the updates that its rules grant, with a journal or in memory alone, and keeps what they change,
+//! beside the zone above it.
 
 ghost use Rattle.std.specs.Prelude.{◌≡◌, ◌⊎◌, ◌↔◌, Err, IfSome, IsTrue, None, Ok, [], false, is_some};
 ghost use Rattle.std.specs.Option.{option_copied};
 ghost use Rattle.hickory_base.specs.declared.errors.LookupError.TheVariants.{Memory};
 ghost use Rattle.hickory_base.specs.declared.zone_store.lookup.LookupControlFlow.TheVariants.{Skip};
 ghost use Rattle.hickory_base.specs.zone_store.ZoneAnswers.{MemoryZone, soa_serial, zone_soa};
-ghost use Rattle.hickory_store.specs.Permission.{update_permission};
+ghost use Rattle.hickory_store.specs.updates.Permission.{update_permission};
 ghost use Rattle.dynamic_zone.specs.DynamicZones.{LookedUp};
 ghost use Rattle.durable_updates.specs.Recorded.{IsDurable};
 ghost use Rattle.incremental_zone.specs.IncrementalZones.{TransferGiven};
@@ -19,7 +20,7 @@ use hickory_base::zone_store::{
     AuthLookup, AxfrPolicy, LookupControlFlow, LookupOptions, Nsec3QueryInfo, NxProofKind,
     ZoneHandler, ZoneTransfer, ZoneType,
 };
-use hickory_store::sqlite::{SqliteZoneHandler, Verifier};
+use hickory_store::updates::{UpdatableZoneHandler, Verifier};
 use hickory_wire::{LowerName, LowerQuery, RecordType, ResponseCode, TSigResponseContext};
 use hickory_zone::AuthoritativeZone;
 use incremental_zone::IncrementalZone;
@@ -36,18 +37,20 @@ const DS: u16 = 43;
 /// How many records of transfers the differences of a small zone may have, twice.
 pub(crate) const LEAST_RECORDS: usize = 100;
 
-/// A zone that takes updates, with the rules of who may make which, and the zone above it, if the server has it: that one is asked for the DS records of
-/// the zone's apex (RFC 4035 section 3.1.4.1), and all else of the zone.
+/// A zone that takes updates, with the rules of who may make which, and the zone above it, if the server has it: that
+/// one is asked for the DS records of the zone's apex (RFC 4035 section 3.1.4.1), and all else of the zone.
 ///
-/// An update is made where its signature is good, by the zone's verifier, and the rules grant each of its changes to the key of the signature. Else it is
-/// refused whole: with NOTAUTH for its signature, and REFUSED where there is none or where the rules grant it not (RFC 2136 section 3.3).
+/// An update is made where its signature is good, by the zone's verifier, and the rules grant each of its changes to
+/// the key of the signature. Else it is refused whole: with NOTAUTH for its signature, and REFUSED where there is none
+/// or where the rules grant it not (RFC 2136 section 3.3).
 ///
-/// Where the zone has a journal, an update is on the disk before it is answered `Ok` (section 3.5), and one that the journal refuses is ServFail and changes
-/// nothing; `into_parts` says of the journal what that comes to.
+/// Where the zone has a journal, an update is on the disk before it is answered `Ok` (section 3.5), and one that the
+/// journal refuses is ServFail and changes nothing; `into_parts` says of the journal what that comes to.
 ///
-/// A client that asks for what changed since its version (IXFR, RFC 1995) gets the SOA alone over UDP, and where its version is no older than the zone's
-/// (section 2); else the differences that updates have made since (section 4), where all of them are kept: of a zone in memory alone since it was loaded, and
-/// of one with a journal since that was compacted before it was opened; and else the whole zone.
+/// A client that asks for what changed since its version (IXFR, RFC 1995) gets the SOA alone over UDP, and where its
+/// version is no older than the zone's (section 2); else the differences that updates have made since (section 4),
+/// where all of them are kept: of a zone in memory alone since it was loaded, and of one with a journal since that was
+/// compacted before it was opened; and else the whole zone.
 #[derive(Drop)]
 pub struct UpdatedZone<V: Verifier, D: Disk + Drop> {
     /// The zone.
@@ -77,8 +80,9 @@ fn whole<'z>(
 }
 
 impl<V: Verifier, D: Disk + Drop> UpdatedZone<V, D> {
-    /// A zone with its rules and the zone above it. No earlier version of it is known; what updates change from now on is kept, up to as many records of
-    /// transfers as the zone has record sets now (RFC 1995 section 5), and up to 200 of a smaller one. It takes no memory.
+    /// A zone with its rules and the zone above it. No earlier version of it is known; what updates change from now on
+    /// is kept, up to as many records of transfers as the zone has record sets now (RFC 1995 section 5), and up to 200
+    /// of a smaller one. It takes no memory.
     pub fn new(
         alloc: Global,
         zone: DurableZone<V, D>,
@@ -127,12 +131,14 @@ impl<V: Verifier, D: Disk + Drop> UpdatedZone<V, D> {
         self.zone.zone().updatable().in_memory().serial()
     }
 
-    /// The zone, and its journal, if it has one, as they are after whatever was asked of the handler: where it holds no updates, on the disk are all requests that
-    /// were answered `Ok`, and what they make of the zone that was there before them is this zone.
-    pub fn into_parts(self) -> (SqliteZoneHandler<V>, Option<Journal<D>>)
+    /// The zone, and its journal, if it has one, as they are after whatever was asked of the handler: where it holds no
+    /// updates, on the disk are all requests that were answered `Ok`, and what they make of the zone that was there
+    /// before them is this zone.
+    pub fn into_parts(self) -> (UpdatableZoneHandler<V>, Option<Journal<D>>)
         ensures zone { result.0 ≡ self.zone.kept.updatable }
         ensures journal { is_some result.1 ≡ self.zone.kept.is_journalled }
-        ensures durable { IfSome result.1 (λ journal. self.zone.kept.holds ≡ false → IsDurable D.Disk result.0.zone journal) }
+        ensures durable { IfSome result.1 (λ journal. self.zone.kept.holds ≡ false →
+            IsDurable D.Disk result.0.zone journal) }
     {
         self.zone.into_zone().into_parts()
     }
@@ -144,7 +150,8 @@ impl<V: Verifier, D: Disk + Drop> UpdatedZone<V, D> {
         request: &Request,
         now: u64,
     ) -> (Result<bool, UpdateFault>, Option<TSigResponseContext>)
-        ensures { IsOutside (update_permission V.Verifier self.now.zone.kept.updatable.verifier self.now.zone.kept.updatable.allow_update request.now now) result.0 result.1 }
+        ensures { IsOutside (update_permission V.Verifier self.now.zone.kept.updatable.verifier
+            self.now.zone.kept.updatable.allow_update request.now now) result.0 result.1 }
     {
         let zone = self.zone.zone().updatable();
         let (permission, context) = zone.authorize_update(alloc, request, now);
@@ -166,7 +173,8 @@ impl<V: Verifier, D: Disk + Drop> ZoneHandler for UpdatedZone<V, D> {
 
     ghost nx_proof_kind_of = { λ _. None };
 
-    ghost lookup_gives = { λ handler name record_type _ _ answer. LookedUp handler.zone.kept.updatable.zone name record_type answer };
+    ghost lookup_gives = { λ handler name record_type _ _ answer.
+        LookedUp handler.zone.kept.updatable.zone name record_type answer };
 
     ghost search_gives = { λ handler request _ answer context. Searched handler request answer × (context ≡ None) };
 
@@ -178,7 +186,8 @@ impl<V: Verifier, D: Disk + Drop> ZoneHandler for UpdatedZone<V, D> {
 
     ghost nsec3_gives = { λ _ _ _ answer. answer ≡ Skip };
 
-    ghost update_gives = { Updates V.Verifier };
+    ghost update_gives = { λ old request now answer context new.
+        Updates V.Verifier old (request, now) answer context new };
 
     fn zone_type(&self) -> ZoneType {
         self.zone.zone_type()

@@ -4,7 +4,7 @@ ghost use Rattle.std.specs.Prelude.{◌≡◌, ◌↔◌, Err, IfOk, IsNone, IsT
 ghost use Rattle.wire_names.specs.rr.domain.DomainName.{DomainName};
 ghost use Rattle.wire_names.specs.declared.error.NameError.TheVariants.{Text};
 ghost use Rattle.wire_names.specs.rr.domain.NameOrder.{lower_name};
-ghost use Rattle.hickory_catalog.specs.Zones.{ChangesAt};
+ghost use Rattle.hickory_catalog.specs.zones.Zones.{ChangesAt};
 ghost use Rattle.served_zones.specs.ServedZones.{Chain, IsApexText, IsChain};
 
 use crate::handler::{Handler, Zones};
@@ -14,8 +14,8 @@ use hickory_server::zone_store::Either;
 use std::alloc::{AllocError, Global};
 use std::rc::Rc;
 
-/// The name of the apex of a zone, with or without a dot at its end; the root is a dot alone. `NameError::Text` says that the text is
-/// no name.
+/// The name of the apex of a zone, with or without a dot at its end; the root is a dot alone. `NameError::Text` says
+/// that the text is no name.
 pub fn apex(alloc: Global, text: &str) -> Result<Name, NameError>
     ensures spelled { IfOk result (IsApexText text.now) }
     ensures qualified { IfOk result (λ name. name.is_fqdn ≡ true) }
@@ -29,8 +29,9 @@ pub fn apex(alloc: Global, text: &str) -> Result<Name, NameError>
     Ok(name)
 }
 
-/// The chain of a zone: its handler, and behind it the list of blocked names, if there is one. The list is consulted about what the zone
-/// answers, so that it changes answers alone: transfers and updates are for the handler of the zone.
+/// The chain of a zone: its handler, and behind it the list of blocked names, if there is one. The list is consulted
+/// about what the zone answers, so that it changes answers alone: transfers and updates are for the handler of the
+/// zone.
 pub fn chain(
     alloc: Global,
     zone: Handler,
@@ -54,7 +55,8 @@ pub fn put_chain(
     chain: Vec<Handler>,
 ) -> Result<bool, AllocError>
     ensures put { IfOk result (λ fresh. (was : Option Chain) ×
-        ChangesAt catalog.old.zones (lower_name apex.now) was (Some chain.items) catalog.new.zones × (IsTrue fresh ↔ IsNone was)) }
+        ChangesAt catalog.old.zones (lower_name apex.now) was (Some chain.items) catalog.new.zones ×
+        (IsTrue fresh ↔ IsNone was)) }
     ensures err { OnErr result (catalog.new.zones ≡ catalog.old.zones) }
     ensures others { catalog.new ≡ record catalog.old { zones = catalog.new.zones } }
 {

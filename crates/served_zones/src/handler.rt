@@ -7,7 +7,8 @@ use hickory_server::zone_handler::Catalog;
 use hickory_server::zone_store::Either;
 use std::rc::Rc;
 
-/// A handler of a chain: a zone, with the zone above it if there is one, or the list of blocked names that all chains share.
+/// A handler of a chain: a zone, with the zone above it if there is one, or the list of blocked names that all chains
+/// share.
 pub type Handler = Either<ZoneWithParent, Rc<BlocklistZoneHandler>>;
 
 /// A catalog of such chains, without keys.

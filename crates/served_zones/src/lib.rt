@@ -1,5 +1,5 @@
-//! What a server of zone files is made of, whoever owns its files and sockets: handlers, zones and lists from the bytes of their
-//! files, chains in a catalog, networks. It has no keys, so it makes no update and signs nothing.
+//! What a server of zone files is made of, whoever owns its files and sockets: handlers, zones and lists from the bytes
+//! of their files, chains in a catalog, networks. It has no keys, so it makes no update and signs nothing.
 #![tactic(auto)]
 
 pub mod chains;

@@ -30,8 +30,8 @@ pub fn blocklist(alloc: Global) -> Result<BlocklistZoneHandler, AllocError>
     Ok(BlocklistZoneHandler::new(alloc, Name::root(), blocking())?)
 }
 
-/// Puts the names that the lines of a list give on a list, written in any of the ways that people have them (`name_lists`), and tells what
-/// became of its lines. After an error some of the names are on it.
+/// Puts the names that the lines of a list give on a list, written in any of the ways that people have them
+/// (`name_lists`), and tells what became of its lines. After an error some of the names are on it.
 pub fn add_names(
     alloc: Global,
     list: &mut BlocklistZoneHandler,

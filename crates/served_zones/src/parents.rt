@@ -80,15 +80,16 @@ fn parent_of(catalog: &Zones, apex: &LowerName) -> Result<Option<Rc<Authoritativ
     zone_for(catalog, &above)
 }
 
-/// Puts the zone that answers at an apex beside the zone above it, which has its DS records (RFC 4035 section 3.1.4.1), with the list of
-/// blocked names behind them. Where no zone answers there, or memory is refused, nothing changes.
+/// Puts the zone that answers at an apex beside the zone above it, which has its DS records (RFC 4035 section 3.1.4.1),
+/// with the list of blocked names behind them. Where no zone answers there, or memory is refused, nothing changes.
 pub fn join_parent(
     alloc: Global,
     catalog: &mut Zones,
     apex: &Name,
     list: Option<&Rc<BlocklistZoneHandler>>,
 ) -> Result<(), AllocError>
-    ensures joined { OnOk result (Joins (option_map (λ it. it.now.value) list.entry) apex.now catalog.old.zones catalog.new.zones) }
+    ensures joined { OnOk result (Joins (option_map (λ it. it.now.value) list.entry) apex.now catalog.old.zones
+        catalog.new.zones) }
     ensures err { OnErr result (catalog.new.zones ≡ catalog.old.zones) }
     ensures others { catalog.new ≡ record catalog.old { zones = catalog.new.zones } }
 {
@@ -102,7 +103,8 @@ pub fn join_parent(
     Ok(())
 }
 
-/// Puts each of these zones beside the zone above it, one after the other in this order. Where memory is refused, those before it are.
+/// Puts each of these zones beside the zone above it, one after the other in this order. Where memory is refused, those
+/// before it are.
 pub fn join_parents(alloc: Global, catalog: &mut Zones, loaded: &[Loaded]) -> Result<(), AllocError>
     ensures joined { OnOk result (AreJoined loaded.now catalog.old.zones catalog.new.zones) }
     ensures others { catalog.new ≡ record catalog.old { zones = catalog.new.zones } }

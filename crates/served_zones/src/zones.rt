@@ -32,7 +32,8 @@ pub enum ZoneFault {
 /// Why a zone file that may include others is not taken, and which file the fault stands in.
 #[derive(Drop)]
 pub struct RefusedFile {
-    /// The name of that file, as the directive has it that includes it; no bytes where it is the first, and where the fault is of the records together.
+    /// The name of that file, as the directive has it that includes it; no bytes where it is the first, and where the
+    /// fault is of the records together.
     pub file: Octets,
     /// Why it is not taken.
     pub fault: ZoneFault,
@@ -76,8 +77,8 @@ fn served(
     }
 }
 
-/// The zone of this apex that the bytes of a zone file have, in any encoding. A file that includes others is not taken. Everybody who may use the server may
-/// have a transfer of it (RFC 5936 section 5), and no update of it is made.
+/// The zone of this apex that the bytes of a zone file have, in any encoding. A file that includes others is not taken.
+/// Everybody who may use the server may have a transfer of it (RFC 5936 section 5), and no update of it is made.
 pub fn zone_of_file(
     alloc: Global,
     apex: &Name,
@@ -93,8 +94,9 @@ pub fn zone_of_file(
     }
 }
 
-/// The zone of this apex that the bytes of a zone file have with the files that it includes (RFC 1035 section 5.1), to ten levels. Everybody who may use the
-/// server may have a transfer of it (RFC 5936 section 5), and no update of it is made.
+/// The zone of this apex that the bytes of a zone file have with the files that it includes (RFC 1035 section 5.1), to
+/// ten levels. Everybody who may use the server may have a transfer of it (RFC 5936 section 5), and no update of it is
+/// made.
 pub fn zone_with_files<O: FileOpener>(
     alloc: Global,
     apex: &Name,

@@ -29,7 +29,8 @@ unanswered_counted counts Limited = record counts { limited = more counts.limite
 abbrev pub code_in : ℕ → ℕ
 code_in low = low % 16
 
--- A header whose third byte has this value says that its message is truncated: its second lowest bit (RFC 1035 section 4.1.1).
+-- A header whose third byte has this value says that its message is truncated: its second lowest bit (RFC 1035 section
+-- 4.1.1).
 abbrev pub says_truncated : ℕ → Bool
 says_truncated high = nat_eq (high / 2 % 2) 1
 

@@ -1,4 +1,5 @@
--- The text in which monitoring reads the numbers: of each family a line that says its type, and then a line for each number (Prometheus, "Text-based format").
+-- The text in which monitoring reads the numbers: of each family a line that says its type, and then a line for each
+-- number (Prometheus, "Text-based format").
 use Rattle.std.specs.Prelude.{◌+◌, ◌++◌, ◌∷◌, [], ℕ, List, codes, get_or}
 use Rattle.std.specs.Fmt.{decimal}
 use Rattle.server_counters.specs.declared.counters.Counters.{Counters}
@@ -28,7 +29,8 @@ reply_lines counts = codes "# TYPE zoned_truncated_total counter\n"
     ++ codes "# TYPE zoned_sent_bytes_total counter\n"
     ++ line_of (codes "zoned_sent_bytes_total") counts.sent
 
--- the names of the response codes from 0 on (RFC 1035 section 4.1.1, RFC 2136 section 2.2), or their numbers where they have none there; and of any other, 15
+-- the names of the response codes from 0 on (RFC 1035 section 4.1.1, RFC 2136 section 2.2), or their numbers where they
+-- have none there; and of any other, 15
 abbrev pub code_names : List (List ℕ)
 code_names = codes "NOERROR" ∷ codes "FORMERR" ∷ codes "SERVFAIL" ∷ codes "NXDOMAIN" ∷ codes "NOTIMP" ∷ codes "REFUSED" ∷ codes "YXDOMAIN" ∷ codes "YXRRSET" ∷ codes "NXRRSET" ∷ codes "NOTAUTH" ∷ codes "NOTZONE" ∷ codes "11" ∷ codes "12" ∷ codes "13" ∷ codes "14" ∷ []
 

@@ -18,8 +18,8 @@ pub enum Unanswered {
     Limited,
 }
 
-/// What a server has done since it was made. Each number stops at 2^64 - 1, so that none ever falls. C has it as a structure of the same
-/// fields in their order.
+/// What a server has done since it was made. Each number stops at 2^64 - 1, so that none ever falls. C has it as a
+/// structure of the same fields in their order.
 #[derive(Clone, Copy, Debug, PartialEq, Eq)]
 #[repr(C)]
 pub struct Counters {
@@ -39,8 +39,8 @@ pub struct Counters {
     pub dropped: u64,
     /// The reply to how many was kept back, since their networks got as many as they may.
     pub limited: u64,
-    /// How many replies have each response code in their header (RFC 1035 section 4.1.1), from 0 to 15. The upper bits of a code that is
-    /// split between header and OPT record (RFC 6891 section 6.1.3) are not looked at.
+    /// How many replies have each response code in their header (RFC 1035 section 4.1.1), from 0 to 15. The upper bits
+    /// of a code that is split between header and OPT record (RFC 6891 section 6.1.3) are not looked at.
     pub codes: [u64; 16],
     /// How many replies are truncated (TC, RFC 1035 section 4.1.1).
     pub truncated: u64,
@@ -93,8 +93,8 @@ impl Counters {
         }
     }
 
-    /// Counts a reply by its bytes. Of bytes that are fewer than the flags of a header (RFC 1035 section 4.1.1) have only their number is
-    /// counted.
+    /// Counts a reply by its bytes. Of bytes that are fewer than the flags of a header (RFC 1035 section 4.1.1) have
+    /// only their number is counted.
     pub fn count_reply(&mut self, reply: &[u8])
         ensures { self.new ≡ reply_counted self.old reply.now }
     {

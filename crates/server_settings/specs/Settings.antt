@@ -50,7 +50,8 @@ abbrev pub texts_of_members : Members → Option (List (List ℕ))
 texts_of_members no_members = Some []
 texts_of_members (member key d ms) = with_text (assigned key (text_of d)) (texts_of_members ms)
 
--- the values that an option is given: one of a text or a number, one of each item of an array, and one of each member of a table
+-- the values that an option is given: one of a text or a number, one of each item of an array, and one of each member
+-- of a table
 abbrev pub texts_of : Data → Option (List (List ℕ))
 texts_of (array ds) = texts_of_items ds
 texts_of (table ms) = texts_of_members ms
@@ -146,7 +147,8 @@ zones_settings (item d ds) = join (zone_settings d) (zones_settings ds)
 
 -- ---- documents
 
--- the settings that a member of a document gives: those of zones, where it is an array that is named `zone`, else one for each value
+-- the settings that a member of a document gives: those of zones, where it is an array that is named `zone`, else one
+-- for each value
 abbrev pub settings_under : List ℕ → Data → Option (List Pair)
 settings_under name (array ds) = cond (bytes_eq name (codes "zone")) (zones_settings ds) (option_map (under name) (texts_of_items ds))
 settings_under name d = option_map (under name) (texts_of d)
@@ -207,8 +209,8 @@ NoneRefusedBefore options text place = (i : ℕ) → i < place → get_or text i
 abbrev pub IsShortest : List (String Global) → List ℕ → ℕ → Type 0
 IsShortest options text end = (end ≤ length text) × NoneRefusedBefore options text (end - 1)
 
--- Why a text gives no settings: it is no TOML; or its shortest front of whole lines that is refused has a name of no option, or a value that gives an option none, and
--- the line is the one with which that front ends.
+-- Why a text gives no settings: it is no TOML; or its shortest front of whole lines that is refused has a name of no
+-- option, or a value that gives an option none, and the line is the one with which that front ends.
 abbrev pub IsFault : List (String Global) → List ℕ → SettingsFault → Type 0
 IsFault options text (faults.Syntax e) = (ms : Members) → ¬ (IsDocument text ms)
 IsFault options text (faults.UnknownOption name line) =
@@ -267,7 +269,8 @@ ended_strings (text ∷ texts) = ended text ++ ended_strings texts
 abbrev pub GivesStrings : List (String Global) → List ℕ → List ℕ → Type 0
 GivesStrings options text bytes = (settings : List Pair) × AreSettings options text settings × (bytes ≡ strings_of settings)
 
--- The bytes are the strings of the settings that the text gives options, whose names are strings of C, one behind the other.
+-- The bytes are the strings of the settings that the text gives options, whose names are strings of C, one behind the
+-- other.
 abbrev pub IsConfiguration : List ℕ → List ℕ → List ℕ → Type 0
 IsConfiguration names text bytes =
     (options : List (String Global)) × (ended_strings (map string_bytes options) ≡ names) × GivesStrings options text bytes

@@ -69,8 +69,8 @@ fn read_and_write(
     bytes
 }
 
-/// The settings of a configuration file ([`read_settings`]) as strings of C: the name and the value of each, with the byte 0 behind both. `names` are the options
-/// that there are, each with the byte 0 behind it.
+/// The settings of a configuration file ([`read_settings`]) as strings of C: the name and the value of each, with the
+/// byte 0 behind both. `names` are the options that there are, each with the byte 0 behind it.
 pub fn configuration(
     alloc: Global,
     names: &[u8],

@@ -50,7 +50,8 @@ fn is_option(options: &[String], name: &str) -> bool
 
 /// That there is no option of this name.
 fn unknown(name: &String) -> Refusal
-    ensures { (options : List (String Global)) (d : Data) → is_option options (string_bytes name.now) ≡ false → IsMemberRefusal options (string_bytes name.now) d result }
+    ensures { (options : List (String Global)) (d : Data) → is_option options (string_bytes name.now) ≡ false →
+        IsMemberRefusal options (string_bytes name.now) d result }
 {
     match name.clone() {
         Ok(name) => Refusal::Unknown(name),
@@ -60,7 +61,8 @@ fn unknown(name: &String) -> Refusal
 
 /// That the value of this option gives it none.
 fn wrong(name: &String) -> Refusal
-    ensures { (options : List (String Global)) (d : Data) → settings_under (string_bytes name.now) d ≡ None → IsMemberRefusal options (string_bytes name.now) d result }
+    ensures { (options : List (String Global)) (d : Data) → settings_under (string_bytes name.now) d ≡ None →
+        IsMemberRefusal options (string_bytes name.now) d result }
 {
     match name.clone() {
         Ok(name) => Refusal::Wrong(name),
@@ -77,7 +79,8 @@ fn put_member(
     settings: &mut Vec<Setting>,
 ) -> Result<(), Refusal>
     ensures known { IfOk result (λ _. is_option options.now (string_bytes name.now) ≡ true) }
-    ensures put { IfOk result (λ _. (those : List Pair) × (settings_under (string_bytes name.now) (view value.now) ≡ Some those) ×
+    ensures put { IfOk result (λ _. (those : List Pair) ×
+        (settings_under (string_bytes name.now) (view value.now) ≡ Some those) ×
         (map said settings.new.items ≡ map said settings.old.items ++ those)) }
     ensures refused { IfErr result (IsMemberRefusal options.now (string_bytes name.now) (view value.now)) }
 {
@@ -109,7 +112,8 @@ fn settings_of(alloc: Global, options: &[String], table: &Table) -> Result<Vec<S
 
 /// That a text is no document, or that memory was refused to read it.
 fn syntax(e: Error) -> SettingsFault
-    ensures { (options : List (String Global)) (text : List ℕ) → ((ms : Members) → ¬ (IsMemory e) → ¬ (IsDocument text ms)) → IsFault options text result }
+    ensures { (options : List (String Global)) (text : List ℕ) →
+        ((ms : Members) → ¬ (IsMemory e) → ¬ (IsDocument text ms)) → IsFault options text result }
 {
     if e.is_memory() {
         SettingsFault::Memory
@@ -132,7 +136,8 @@ fn wrong_value(name: String, line: usize) -> SettingsFault
 
 /// Why the text gives no settings whose front up to this place is refused so.
 fn fault(front: &[u8], refusal: Refusal) -> SettingsFault
-    ensures { (options : List (String Global)) (text : List ℕ) (end : ℕ) → front.now ≡ take end text → IsShortest options text end → IsRefusal options front.now refusal → IsFault options text result }
+    ensures { (options : List (String Global)) (text : List ℕ) (end : ℕ) → front.now ≡ take end text →
+        IsShortest options text end → IsRefusal options front.now refusal → IsFault options text result }
 {
     let line = line_of(front);
     match refusal {
@@ -172,7 +177,8 @@ fn line_of(text: &[u8]) -> usize
 /// Why a document is refused, if it is.
 fn table_refusal(alloc: Global, options: &[String], table: &Table) -> Option<Refusal>
     ensures some { IfSome result (IsTableRefusal options.now (table_view table.now)) }
-    ensures none { IfNone result ((settings : List Pair) × AreKnown options.now (table_view table.now) × (settings_of (table_view table.now) ≡ Some settings)) }
+    ensures none { IfNone result ((settings : List Pair) × AreKnown options.now (table_view table.now) ×
+        (settings_of (table_view table.now) ≡ Some settings)) }
 {
     match settings_of(alloc, options, table) {
         Ok(settings) => {
@@ -204,7 +210,8 @@ fn text_refusal(alloc: Global, options: &[String], text: &[u8]) -> Option<Refusa
     }
 }
 
-/// Why the front of a text that ends with this byte is refused, if the byte ends a line and the front is a document that is.
+/// Why the front of a text that ends with this byte is refused, if the byte ends a line and the front is a document
+/// that is.
 fn front_refusal(alloc: Global, options: &[String], text: &[u8], i: usize) -> Option<Refusal>
     requires { i < length text.now }
     ensures some { IfSome result (IsRefusal options.now (take (i + 1) text.now)) }
@@ -231,18 +238,22 @@ fn first_fault(alloc: Global, options: &[String], text: &[u8], whole: Refusal) -
     fault(text, whole)
 }
 
-/// The settings of a configuration file in TOML 1.1, in the order of their names, where these are the names of the options that there are.
+/// The settings of a configuration file in TOML 1.1, in the order of their names, where these are the names of the
+/// options that there are.
 ///
-/// A member `zone` that is an array gives for each item that is a table the setting `zone`, `NAME=FILE`, and for each table of its `update` the setting
-/// `allow-update`, `NAME=KEY RULE TYPE..`; of these `NAME`, `FILE`, `KEY` and `RULE` are texts or numbers, empty where they are not there, `TYPE..` is an array
-/// of them, and there is no other key. All other values give theirs so:
+/// A member `zone` that is an array gives for each item that is a table the setting `zone`, `NAME=FILE`, and for each
+/// table of its `update` the setting `allow-update`, `NAME=KEY RULE TYPE..`; of these `NAME`, `FILE`, `KEY` and `RULE`
+/// are texts or numbers, empty where they are not there, `TYPE..` is an array of them, and there is no other key. All
+/// other values give theirs so:
 ///
-/// A text gives one setting of its name, and a whole number that is not negative its decimal digits. An array gives one for each of its items, in their order,
-/// and a table one for each of its members, `KEY=TEXT`, in the order of their keys, where these are texts or such numbers. Each name counts for itself, so
-/// `"example.com"` wants its quotes as a key.
+/// A text gives one setting of its name, and a whole number that is not negative its decimal digits. An array gives one
+/// for each of its items, in their order, and a table one for each of its members, `KEY=TEXT`, in the order of their
+/// keys, where these are texts or such numbers. Each name counts for itself, so `"example.com"` wants its quotes as a
+/// key.
 ///
-/// `UnknownOption`, `WrongValue` and `WrongZone` tell the first line with which what stands so far is a document that is refused; to find it the front up to each line is read,
-/// so a fault takes time by the square of the lines. `Memory` says nothing of the text.
+/// `UnknownOption`, `WrongValue` and `WrongZone` tell the first line with which what stands so far is a document that
+/// is refused; to find it the front up to each line is read, so a fault takes time by the square of the lines. `Memory`
+/// says nothing of the text.
 pub fn read_settings(
     alloc: Global,
     options: &[String],

@@ -41,7 +41,8 @@ pub(crate) fn put_text(
     value: String,
     settings: &mut Vec<Setting>,
 ) -> Result<(), AllocError>
-    ensures { IfOk result (λ _. map said settings.new.items ≡ map said settings.old.items ++ under name.now (string_bytes value ∷ [])) }
+    ensures { IfOk result (λ _. map said settings.new.items ≡ map said settings.old.items ++ under name.now
+        (string_bytes value ∷ [])) }
 {
     match String::from_str(alloc, name) {
         Ok(name) => {
@@ -55,7 +56,8 @@ pub(crate) fn put_text(
     }
 }
 
-/// Puts a setting last of each item of an array. Tells whether each is a text or a number; else settings may have been put.
+/// Puts a setting last of each item of an array. Tells whether each is a text or a number; else settings may have been
+/// put.
 fn put_items(
     alloc: Global,
     name: &str,
@@ -63,7 +65,8 @@ fn put_items(
     settings: &mut Vec<Setting>,
 ) -> Result<bool, AllocError>
     ensures { IfOk result (λ taken. MatchOption (texts_of_items (array_view items.now)) (taken ≡ false)
-        (λ texts. (taken ≡ true) × (map said settings.new.items ≡ map said settings.old.items ++ under name.now texts))) }
+        (λ texts. (taken ≡ true) × (map said settings.new.items ≡ map said settings.old.items ++ under name.now
+        texts))) }
 {
     for item in items {
         match text_of(alloc, item)? {
@@ -84,7 +87,8 @@ pub(crate) fn assigned(alloc: Global, key: &str, text: &str) -> Result<String, A
     Ok(made)
 }
 
-/// Puts a setting last of each member of a table. Tells whether each is a text or a number; else settings may have been put.
+/// Puts a setting last of each member of a table. Tells whether each is a text or a number; else settings may have been
+/// put.
 fn put_members(
     alloc: Global,
     name: &str,
@@ -92,7 +96,8 @@ fn put_members(
     settings: &mut Vec<Setting>,
 ) -> Result<bool, AllocError>
     ensures { IfOk result (λ taken. MatchOption (texts_of_members (table_view members.now)) (taken ≡ false)
-        (λ texts. (taken ≡ true) × (map said settings.new.items ≡ map said settings.old.items ++ under name.now texts))) }
+        (λ texts. (taken ≡ true) × (map said settings.new.items ≡ map said settings.old.items ++ under name.now
+        texts))) }
 {
     for (key, member) in members.iter() {
         match text_of(alloc, member)? {
@@ -108,7 +113,8 @@ fn put_members(
     Ok(true)
 }
 
-/// Puts the settings of an option last that has this value, which is no array. Tells whether the value is of a kind that gives it any; else settings may have been put.
+/// Puts the settings of an option last that has this value, which is no array. Tells whether the value is of a kind
+/// that gives it any; else settings may have been put.
 pub(crate) fn put_one(
     alloc: Global,
     name: &str,
@@ -116,7 +122,8 @@ pub(crate) fn put_one(
     settings: &mut Vec<Setting>,
 ) -> Result<bool, AllocError>
     ensures { IfOk result (λ taken. MatchOption (with_text (text_of (view value.now)) (Some [])) (taken ≡ false)
-        (λ texts. (taken ≡ true) × (map said settings.new.items ≡ map said settings.old.items ++ under name.now texts))) }
+        (λ texts. (taken ≡ true) × (map said settings.new.items ≡ map said settings.old.items ++ under name.now
+        texts))) }
 {
     match text_of(alloc, value)? {
         Some(text) => {
@@ -127,7 +134,8 @@ pub(crate) fn put_one(
     }
 }
 
-/// Puts the settings of an option last that has this value. Tells whether the value is of a kind that gives it any; else settings may have been put.
+/// Puts the settings of an option last that has this value. Tells whether the value is of a kind that gives it any;
+/// else settings may have been put.
 pub(crate) fn put_values(
     alloc: Global,
     name: &str,

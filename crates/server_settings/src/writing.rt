@@ -63,10 +63,13 @@ fn put_settings(all: &[Setting], written: &mut Vec<u8>) -> Result<(), AllocError
     Ok(())
 }
 
-/// The names and values of settings, each with the byte 0 behind it, or `None` where one has that byte in it: C would see its end there.
+/// The names and values of settings, each with the byte 0 behind it, or `None` where one has that byte in it: C would
+/// see its end there.
 pub fn strings_of(alloc: Global, all: &[Setting]) -> Result<Option<Vec<u8>>, AllocError>
-    ensures some { IfOk result (λ made. IfSome made (λ bytes. (bytes.items ≡ settings.strings_of (map said all.now)) × (list_any (λ setting. settings.has_zero (said setting)) all.now ≡ false))) }
-    ensures none { IfOk result (λ made. IfNone made (list_any (λ setting. settings.has_zero (said setting)) all.now ≡ true)) }
+    ensures some { IfOk result (λ made. IfSome made (λ bytes. (bytes.items ≡ settings.strings_of (map said all.now)) ×
+        (list_any (λ setting. settings.has_zero (said setting)) all.now ≡ false))) }
+    ensures none { IfOk result (λ made.
+        IfNone made (list_any (λ setting. settings.has_zero (said setting)) all.now ≡ true)) }
 {
     if has_zero_in_any(all) {
         return Ok(None);

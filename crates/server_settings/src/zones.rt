@@ -58,7 +58,8 @@ fn put_word(word: &str, made: &mut String) -> Result<(), AllocError>
     Ok(())
 }
 
-/// Puts the words of an array behind a text, each behind a blank. Tells whether each is a text or a number; else some may have been put.
+/// Puts the words of an array behind a text, each behind a blank. Tells whether each is a text or a number; else some
+/// may have been put.
 fn put_words(alloc: Global, items: &Array, made: &mut String) -> Result<bool, AllocError>
     ensures { IfOk result (λ taken. MatchOption (words_of (array_view items.now)) (taken ≡ false)
         (λ words. (taken ≡ true) × (string_bytes made.new ≡ string_bytes made.old ++ words))) }
@@ -72,7 +73,8 @@ fn put_words(alloc: Global, items: &Array, made: &mut String) -> Result<bool, Al
     Ok(true)
 }
 
-/// Puts the words of an array behind a text, if there is one. Tells whether nothing else is there; else some may have been put.
+/// Puts the words of an array behind a text, if there is one. Tells whether nothing else is there; else some may have
+/// been put.
 fn put_words_in(alloc: Global, words: Option<&Value>, made: &mut String) -> Result<bool, AllocError>
     ensures { IfOk result (λ taken. MatchOption (words_in (option_map (λ it. view it.now) words.entry)) (taken ≡ false)
         (λ those. (taken ≡ true) × (string_bytes made.new ≡ string_bytes made.old ++ those))) }
@@ -122,7 +124,8 @@ fn put_update(
     settings: &mut Vec<Setting>,
 ) -> Result<bool, AllocError>
     ensures { IfOk result (λ taken. MatchOption (update_text zone.now (view rule.now)) (taken ≡ false)
-        (λ text. (taken ≡ true) × (map said settings.new.items ≡ map said settings.old.items ++ under (codes "allow-update") (text ∷ [])))) }
+        (λ text. (taken ≡ true) × (map said settings.new.items ≡ map said settings.old.items ++ under
+        (codes "allow-update") (text ∷ [])))) }
 {
     match update_text(alloc, zone, rule)? {
         Some(text) => {
@@ -133,7 +136,8 @@ fn put_update(
     }
 }
 
-/// Puts a setting last of each rule of an array. Tells whether each is a table of a rule; else settings may have been put.
+/// Puts a setting last of each rule of an array. Tells whether each is a table of a rule; else settings may have been
+/// put.
 fn put_updates(
     alloc: Global,
     zone: &str,
@@ -141,7 +145,8 @@ fn put_updates(
     settings: &mut Vec<Setting>,
 ) -> Result<bool, AllocError>
     ensures { IfOk result (λ taken. MatchOption (update_texts zone.now (array_view items.now)) (taken ≡ false)
-        (λ texts. (taken ≡ true) × (map said settings.new.items ≡ map said settings.old.items ++ under (codes "allow-update") texts))) }
+        (λ texts. (taken ≡ true) × (map said settings.new.items ≡ map said settings.old.items ++ under
+        (codes "allow-update") texts))) }
 {
     for item in items {
         if !put_update(alloc, zone, item, settings)? {
@@ -151,15 +156,18 @@ fn put_updates(
     Ok(true)
 }
 
-/// Puts a setting last of each rule of a zone, if there is one. Tells whether nothing else is there; else settings may have been put.
+/// Puts a setting last of each rule of a zone, if there is one. Tells whether nothing else is there; else settings may
+/// have been put.
 fn put_updates_in(
     alloc: Global,
     zone: &str,
     updates: Option<&Value>,
     settings: &mut Vec<Setting>,
 ) -> Result<bool, AllocError>
-    ensures { IfOk result (λ taken. MatchOption (updates_in zone.now (option_map (λ it. view it.now) updates.entry)) (taken ≡ false)
-        (λ texts. (taken ≡ true) × (map said settings.new.items ≡ map said settings.old.items ++ under (codes "allow-update") texts))) }
+    ensures { IfOk result (λ taken. MatchOption (updates_in zone.now (option_map (λ it. view it.now) updates.entry))
+        (taken ≡ false)
+        (λ texts. (taken ≡ true) × (map said settings.new.items ≡ map said settings.old.items ++ under
+        (codes "allow-update") texts))) }
 {
     match updates {
         None => Ok(true),
@@ -168,7 +176,8 @@ fn put_updates_in(
     }
 }
 
-/// Puts the settings of a zone last that is a table. Tells whether it is one of a zone; else settings may have been put.
+/// Puts the settings of a zone last that is a table. Tells whether it is one of a zone; else settings may have been
+/// put.
 fn put_table(alloc: Global, table: &Value, settings: &mut Vec<Setting>) -> Result<bool, AllocError>
     ensures { IfOk result (λ taken. MatchOption (zone_of_table (view table.now)) (taken ≡ false)
         (λ those. (taken ≡ true) × (map said settings.new.items ≡ map said settings.old.items ++ those))) }
@@ -187,7 +196,8 @@ fn put_table(alloc: Global, table: &Value, settings: &mut Vec<Setting>) -> Resul
     put_updates_in(alloc, name.as_str(), table.get("update"), settings)
 }
 
-/// Puts the settings of a zone last. Tells whether it is a table of a zone, a text or a number; else settings may have been put.
+/// Puts the settings of a zone last. Tells whether it is a table of a zone, a text or a number; else settings may have
+/// been put.
 fn put_zone(alloc: Global, item: &Value, settings: &mut Vec<Setting>) -> Result<bool, AllocError>
     ensures { IfOk result (λ taken. MatchOption (zone_settings (view item.now)) (taken ≡ false)
         (λ those. (taken ≡ true) × (map said settings.new.items ≡ map said settings.old.items ++ those))) }

@@ -48,8 +48,11 @@ pub(crate) fn item_end(text: &[u8], start: usize) -> usize
     requires { start ≤ length text.now }
     ensures on { start ≤ result }
     ensures within { result ≤ length text.now }
-    ensures more { result < length text.now → list_items false (drop start text.now) ≡ take (result - start) (drop start text.now) ∷ list_items false (drop (result + 1) text.now) }
-    ensures last { result ≡ length text.now → list_items false (drop start text.now) ≡ take (result - start) (drop start text.now) ∷ [] }
+    ensures more { result < length text.now →
+        list_items false (drop start text.now) ≡ take (result - start) (drop start text.now) ∷ list_items false
+        (drop (result + 1) text.now) }
+    ensures last { result ≡ length text.now →
+        list_items false (drop start text.now) ≡ take (result - start) (drop start text.now) ∷ [] }
 {
     let mut is_escaped = false;
     for end in start..text.len() {

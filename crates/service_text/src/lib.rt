@@ -1,4 +1,5 @@
-//! The parameters of a service as the words of a zone's text (RFC 9460 section 2.1 and appendix A): those of SVCB and HTTPS records.
+//! The parameters of a service as the words of a zone's text (RFC 9460 section 2.1 and appendix A): those of SVCB and
+//! HTTPS records.
 #![tactic(auto)]
 
 mod items;

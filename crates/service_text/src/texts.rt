@@ -1,4 +1,5 @@
-//! The texts of parameters, each in one word or with its value in quotes behind it (RFC 9460 section 2.1 and appendix A).
+//! The texts of parameters, each in one word or with its value in quotes behind it (RFC 9460 section 2.1 and appendix
+//! A).
 
 ghost use Rattle.std.specs.Prelude.{◌≡◌, ◌≤◌, ◌<◌, ◌∷◌, length, drop};
 ghost use Rattle.service_text.specs.ServiceText.{before_sign, behind_sign, is_value, parameter_texts, text_view};
@@ -40,7 +41,8 @@ pub(crate) fn text_at<'a>(words: &[Word<'a>], place: usize) -> (Text<'a>, usize)
     requires { place < length words.now }
     ensures on { place < result.1 }
     ensures within { result.1 ≤ length words.now }
-    ensures text { parameter_texts (drop place words.now) ≡ text_view result.0 ∷ parameter_texts (drop result.1 words.now) }
+    ensures text { parameter_texts (drop place words.now) ≡ text_view result.0 ∷ parameter_texts
+        (drop result.1 words.now) }
 {
     let word = words[place];
     let (key, value) = cut_at_sign(word.bytes);

@@ -70,7 +70,8 @@ fn number_of(word: &Word<'_>, text: &[u8]) -> Result<u16, TextError>
 /// The bytes whose encoding in base 64 a text is.
 fn decoded(alloc: Global, word: &Word<'_>, text: &[u8]) -> Result<Vec<u8>, TextError>
     ensures bytes { IfOk result (λ octets. IsBytes octets.items × (text.now ≡ encode_of standard octets.items)) }
-    ensures refused { IfErr result (λ e. e ≢ Memory → HasNone (λ octets. IsBytes octets × (text.now ≡ encode_of standard octets))) }
+    ensures refused { IfErr result
+        (λ e. e ≢ Memory → HasNone (λ octets. IsBytes octets × (text.now ≡ encode_of standard octets))) }
 {
     match STANDARD.decode(alloc, text) {
         Ok(octets) => Ok(octets),
@@ -82,7 +83,8 @@ fn decoded(alloc: Global, word: &Word<'_>, text: &[u8]) -> Result<Vec<u8>, TextE
 /// Keys that are mandatory.
 fn keys(alloc: Global, word: &Word<'_>, text: &[u8]) -> Result<Value, TextError>
     ensures is { IfOk result (λ v. IsValue value.Keys text.now v.listed.items v.octets.items) }
-    ensures refused { IfErr result (λ e. e ≢ Memory → (listed : List ℕ) → HasNone (IsValue value.Keys text.now listed)) }
+    ensures refused { IfErr result (λ e. e ≢ Memory → (listed : List ℕ) →
+        HasNone (IsValue value.Keys text.now listed)) }
 {
     let listed = listed_keys(alloc, word, text)?;
     let is_set = are_distinct(listed.as_slice());
@@ -96,7 +98,8 @@ fn keys(alloc: Global, word: &Word<'_>, text: &[u8]) -> Result<Value, TextError>
 /// Identifiers of protocols.
 fn protocols(alloc: Global, word: &Word<'_>, text: &[u8]) -> Result<Value, TextError>
     ensures is { IfOk result (λ v. IsValue value.Protocols text.now v.listed.items v.octets.items) }
-    ensures refused { IfErr result (λ e. e ≢ Memory → (listed : List ℕ) → HasNone (IsValue value.Protocols text.now listed)) }
+    ensures refused { IfErr result (λ e. e ≢ Memory → (listed : List ℕ) →
+        HasNone (IsValue value.Protocols text.now listed)) }
 {
     // What a text spells, it spells in one way.
     words_spell_once();
@@ -108,7 +111,8 @@ fn protocols(alloc: Global, word: &Word<'_>, text: &[u8]) -> Result<Value, TextE
 /// No value.
 fn nothing(alloc: Global, word: &Word<'_>, text: &[u8]) -> Result<Value, TextError>
     ensures is { IfOk result (λ v. IsValue value.Nothing text.now v.listed.items v.octets.items) }
-    ensures refused { IfErr result (λ e. e ≢ Memory → (listed : List ℕ) → HasNone (IsValue value.Nothing text.now listed)) }
+    ensures refused { IfErr result (λ e. e ≢ Memory → (listed : List ℕ) →
+        HasNone (IsValue value.Nothing text.now listed)) }
 {
     let len = text.len();
     if len > 0 {
@@ -120,7 +124,8 @@ fn nothing(alloc: Global, word: &Word<'_>, text: &[u8]) -> Result<Value, TextErr
 /// A number of 16 bits.
 fn number16(alloc: Global, word: &Word<'_>, text: &[u8]) -> Result<Value, TextError>
     ensures is { IfOk result (λ v. IsValue value.Number16 text.now v.listed.items v.octets.items) }
-    ensures refused { IfErr result (λ e. e ≢ Memory → (listed : List ℕ) → HasNone (IsValue value.Number16 text.now listed)) }
+    ensures refused { IfErr result (λ e. e ≢ Memory → (listed : List ℕ) →
+        HasNone (IsValue value.Number16 text.now listed)) }
 {
     let number = number_of(word, text)?;
     let octets = Vec::from_slice(alloc, &number.to_be_bytes())?;
@@ -130,7 +135,8 @@ fn number16(alloc: Global, word: &Word<'_>, text: &[u8]) -> Result<Value, TextEr
 /// IPv4 addresses.
 fn ipv4(alloc: Global, word: &Word<'_>, text: &[u8]) -> Result<Value, TextError>
     ensures is { IfOk result (λ v. IsValue value.Ipv4 text.now v.listed.items v.octets.items) }
-    ensures refused { IfErr result (λ e. e ≢ Memory → (listed : List ℕ) → HasNone (IsValue value.Ipv4 text.now listed)) }
+    ensures refused { IfErr result (λ e. e ≢ Memory → (listed : List ℕ) →
+        HasNone (IsValue value.Ipv4 text.now listed)) }
 {
     let octets = items(alloc, ItemKind::Ipv4, word, text)?;
     Ok(without_keys(alloc, octets))
@@ -139,7 +145,8 @@ fn ipv4(alloc: Global, word: &Word<'_>, text: &[u8]) -> Result<Value, TextError>
 /// Bytes in base 64.
 fn base64(alloc: Global, word: &Word<'_>, text: &[u8]) -> Result<Value, TextError>
     ensures is { IfOk result (λ v. IsValue value.Base64 text.now v.listed.items v.octets.items) }
-    ensures refused { IfErr result (λ e. e ≢ Memory → (listed : List ℕ) → HasNone (IsValue value.Base64 text.now listed)) }
+    ensures refused { IfErr result (λ e. e ≢ Memory → (listed : List ℕ) →
+        HasNone (IsValue value.Base64 text.now listed)) }
 {
     let octets = decoded(alloc, word, text)?;
     Ok(without_keys(alloc, octets))
@@ -148,7 +155,8 @@ fn base64(alloc: Global, word: &Word<'_>, text: &[u8]) -> Result<Value, TextErro
 /// IPv6 addresses.
 fn ipv6(alloc: Global, word: &Word<'_>, text: &[u8]) -> Result<Value, TextError>
     ensures is { IfOk result (λ v. IsValue value.Ipv6 text.now v.listed.items v.octets.items) }
-    ensures refused { IfErr result (λ e. e ≢ Memory → (listed : List ℕ) → HasNone (IsValue value.Ipv6 text.now listed)) }
+    ensures refused { IfErr result (λ e. e ≢ Memory → (listed : List ℕ) →
+        HasNone (IsValue value.Ipv6 text.now listed)) }
 {
     let octets = items(alloc, ItemKind::Ipv6, word, text)?;
     Ok(without_keys(alloc, octets))
@@ -157,7 +165,8 @@ fn ipv6(alloc: Global, word: &Word<'_>, text: &[u8]) -> Result<Value, TextError>
 /// Bytes, at least one.
 fn some_bytes(alloc: Global, word: &Word<'_>, text: &[u8]) -> Result<Value, TextError>
     ensures is { IfOk result (λ v. IsValue value.Text text.now v.listed.items v.octets.items) }
-    ensures refused { IfErr result (λ e. e ≢ Memory → (listed : List ℕ) → HasNone (IsValue value.Text text.now listed)) }
+    ensures refused { IfErr result (λ e. e ≢ Memory → (listed : List ℕ) →
+        HasNone (IsValue value.Text text.now listed)) }
 {
     // What a text spells, it spells in one way.
     words_spell_once();
@@ -172,7 +181,8 @@ fn some_bytes(alloc: Global, word: &Word<'_>, text: &[u8]) -> Result<Value, Text
 /// Bytes.
 fn any_bytes(alloc: Global, word: &Word<'_>, text: &[u8]) -> Result<Value, TextError>
     ensures is { IfOk result (λ v. IsValue value.Bytes text.now v.listed.items v.octets.items) }
-    ensures refused { IfErr result (λ e. e ≢ Memory → (listed : List ℕ) → HasNone (IsValue value.Bytes text.now listed)) }
+    ensures refused { IfErr result (λ e. e ≢ Memory → (listed : List ℕ) →
+        HasNone (IsValue value.Bytes text.now listed)) }
 {
     let octets = spelled(alloc, word, text)?;
     Ok(without_keys(alloc, octets))

@@ -1,3 +1,4 @@
+pub mod KeyedServers
 pub mod Placeholders
 pub mod ServedWithKeys
 pub mod SignedAnswers

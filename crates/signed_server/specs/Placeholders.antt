@@ -1,5 +1,6 @@
 -- What stands in the place of a signature until the server signs.
 use Rattle.std.specs.Prelude.{[], true}
+use Rattle.wire_messages.specs.Numbers.{class_any}
 use Rattle.wire_messages.specs.declared.rr.record.Proof.TheVariants.{Indeterminate}
 use Rattle.wire_messages.specs.declared.rr.record.Record.{Record}
 use Rattle.wire_messages.specs.declared.rr.tsig.TSIG.{TSIG}
@@ -12,7 +13,7 @@ the_root = record { labels = []; is_fqdn = true }
 abbrev pub placeholder : Record TSIG
 placeholder = record {
   name = the_root;
-  dns_class = 255;
+  dns_class = class_any;
   ttl = 0;
   rdata = record { algorithm = the_root; time = 0; fudge = 0; mac = []; oid = 0; error = 0; other = [] };
   proof = Indeterminate;

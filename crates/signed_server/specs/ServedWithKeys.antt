@@ -6,15 +6,13 @@ use Rattle.std.specs.declared.net.SocketAddr.{SocketAddr}
 use Rattle.wire_names.specs.rr.domain.DomainName.{DomainName}
 use Rattle.wire_names.specs.rr.domain.NameOrder.{name_eq}
 use Rattle.wire_names.specs.declared.error.ProtoError.{ProtoError}
-use Rattle.wire_messages.specs.declared.protocol.Protocol.{Protocol}
 use Rattle.wire_reading.specs.serialize.layout.WholeMessage.{MessageAt}
 use Rattle.wire_reading.specs.serialize.reading.MessageReading.{Reads}
 use Rattle.access_control.specs.Access.{IsAllowed, Network}
 use Rattle.hickory_base.specs.requests.RequestReading.{IsFaultOf, IsQuestionSection, message_of}
 use Rattle.hickory_base.specs.requests.Requests.{ReceivedRequest}
-use Rattle.hickory_catalog.specs.Server.{Server}
-use Rattle.hickory_server.specs.Ruling.{IsResponse}
-use Rattle.hickory_server.specs.ServedBy.{BytesServed, LeavesBytes}
+use Rattle.hickory_server.specs.server.Ruling.{IsResponse}
+use Rattle.hickory_server.specs.server.ServedBy.{Arrival, BytesServed, LeavesBytes}
 use Rattle.hickory_server.specs.declared.server.answer.Answer.{Answer}
 use Rattle.hickory_server.specs.declared.server.answer.Answer.TheVariants.{Replies}
 use Rattle.hickory_server.specs.declared.server.rules.Rules.{Rules}
@@ -25,29 +23,22 @@ use Rattle.tsig.specs.declared.judgement.Judgement.{Judgement}
 use Rattle.tsig.specs.declared.judgement.Judgement.TheVariants.{FormErr, Signed, Unsigned}
 use Rattle.tsig.specs.declared.judgement.Verdict.TheVariants.{BadKey, BadSig, BadTime, BadTrunc, Good}
 use Rattle.tsig.specs.declared.keys.Key.{Key}
+use Rattle.signed_server.specs.KeyedServers.{KeyedServer}
 use Rattle.signed_server.specs.SignedAnswers.{IsRefused, IsSent}
 use Rattle.signed_server.specs.Unread.{IsUnread}
 use Rattle.signed_server.specs.declared.service.Course.{Course}
 use Rattle.signed_server.specs.declared.service.Course.TheVariants.{Plain, Refuse, Sign}
 
--- a message as it came: its bytes, the address, the transport, and the moment in seconds since 1970
-pub record Arrival : Type 0 where
-  pub bytes : List ℕ
-  pub source : SocketAddr
-  pub protocol : Protocol
-  pub now : ℕ
-
-abbrev pub arrival : List ℕ → SocketAddr → Protocol → ℕ → Arrival
-arrival bytes source protocol now = record { bytes = bytes; source = source; protocol = protocol; now = now }
-
--- The message has a header, which counts no record in any of the three sections behind the questions (RFC 1035 section 4.1.1). So no TSIG is counted.
+-- The message has a header, which counts no record in any of the three sections behind the questions (RFC 1035 section
+-- 4.1.1). So no TSIG is counted.
 pub record CountsNoRecord (bytes : List ℕ) : Type 0 where
   pub whole : 12 ≤ length bytes
   pub answers : (get_or bytes 6 0 ≡ 0) × (get_or bytes 7 0 ≡ 0)
   pub authorities : (get_or bytes 8 0 ≡ 0) × (get_or bytes 9 0 ≡ 0)
   pub additionals : (get_or bytes 10 0 ≡ 0) × (get_or bytes 11 0 ≡ 0)
 
--- The server has a key, the message's address may use the server, and it is no shorter than a header and itself no response.
+-- The server has a key, the message's address may use the server, and it is no shorter than a header and itself no
+-- response.
 pub record IsRequestWithKeys (keys : List Key) (rules : Rules) (bytes : List ℕ) (source : SocketAddr) : Type 0 where
   pub keyed : ¬ (keys ≡ [])
   pub allowed : IsAllowed rules.access.deny rules.access.allow (socket_ip source)
@@ -68,8 +59,8 @@ pub record IsRequestOf (came : Arrival) (request : ReceivedRequest) : Type 0 whe
   pub source_is : request.source ≡ came.source
   pub protocol_is : request.protocol ≡ came.protocol
 
--- which way a message goes that was judged so: one without a signature is served as it is; one with a good signature is served, and its replies are
--- signed; any other is refused
+-- which way a message goes that was judged so: one without a signature is served as it is; one with a good signature is
+-- served, and its replies are signed; any other is refused
 abbrev pub course_of : Judgement → Course
 course_of Unsigned = Plain
 course_of FormErr = Refuse
@@ -88,39 +79,39 @@ is_by_one_of names other = false
 pub record AreOpen (rules theirs : Rules) : Type 0 where
   pub others : theirs ≡ record rules { transfers = theirs.transfers }
   pub none_denied : (network : Network) → ¬ (Contains theirs.transfers.deny network)
-  pub all_allowed : (network : Network) → ¬ (Contains theirs.transfers.allow network)
+  pub none_listed : (network : Network) → ¬ (Contains theirs.transfers.allow network)
 
 -- The rules that a request is held to: these, which are opened where its key may have transfers from anywhere.
 abbrev pub AreRulesFor : Bool → Rules → Rules → Type 0
 AreRulesFor true rules theirs = AreOpen rules theirs
 AreRulesFor false rules theirs = theirs ≡ rules
 
--- what becomes of a message at a server without keys, and the zones after it
-abbrev pub IsServed : {H : Type 0} → Rules → Server H → Arrival → Answer → List (DomainName × List H) → Type 0
-IsServed rules server came answer zones = BytesServed rules server came.bytes came.source came.protocol came.now answer zones
-
--- What becomes of a message at a server with keys, and the zones after it. Of the keys those of these names may have transfers from anywhere.
-pub data ServedWithKeys {H : Type 0} (keys : List Key) (names : List DomainName) (rules : Rules) (server : Server H) (came : Arrival) (answer : Answer) (zones : List (DomainName × List H)) : Type 0 where
-  -- It is not judged: it is served as by a server without keys, which gives it no reply where the server has a key and the message counts a record.
-  unjudged : ¬ (IsForJudging keys rules came.bytes came.source) → IsServed rules server came answer zones → ServedWithKeys keys names rules server came answer zones
+-- What becomes of a message at a server with keys, and the zones after it.
+pub data ServedWithKeys {H : Type 0} (keyed : KeyedServer H) (came : Arrival) (answer : Answer) (zones : List (DomainName × List H)) : Type 0 where
+  -- It is not judged: it is served as by a server without keys, which gives it no reply where the server has a key and
+  -- the message counts a record.
+  unjudged : ¬ (IsForJudging keyed.keys keyed.rules came.bytes came.source) → BytesServed keyed.rules keyed.server came answer zones → ServedWithKeys keyed came answer zones
   -- It has no TSIG record: it is served as by a server without keys.
-  plain : {judgement : Judgement} → IsForJudging keys rules came.bytes came.source → Judged keys came.bytes came.now judgement → course_of judgement ≡ Plain
-      → IsServed rules server came answer zones → ServedWithKeys keys names rules server came answer zones
-  -- It begins with no message that the zones could be asked for: FORMERR for a TSIG that is not its last record, and else no reply.
-  unreadable : {judgement : Judgement} {e : ProtoError} → IsForJudging keys rules came.bytes came.source → Judged keys came.bytes came.now judgement → IsFaultOf came.bytes e
-      → IsUnread came.bytes e answer → zones ≡ server.zones → ServedWithKeys keys names rules server came answer zones
+  plain : {judgement : Judgement} → IsForJudging keyed.keys keyed.rules came.bytes came.source → Judged keyed.keys came.bytes came.now judgement
+      → course_of judgement ≡ Plain → BytesServed keyed.rules keyed.server came answer zones → ServedWithKeys keyed came answer zones
+  -- It begins with no message for the zones: FORMERR for a TSIG that is not its last record, and else no reply.
+  unreadable : {judgement : Judgement} {e : ProtoError} → IsForJudging keyed.keys keyed.rules came.bytes came.source → Judged keyed.keys came.bytes came.now judgement
+      → IsFaultOf came.bytes e → IsUnread came.bytes e answer → zones ≡ keyed.server.zones → ServedWithKeys keyed came answer zones
   -- Its signature is good: it is served, by the rules for its key, and the replies are signed.
-  good : {judgement : Judgement} {request : ReceivedRequest} {served : Answer} {theirs : Rules} → IsForJudging keys rules came.bytes came.source → Judged keys came.bytes came.now judgement
-      → course_of judgement ≡ Sign → IsRequestOf came request → AreRulesFor (is_by_one_of names judgement) rules theirs → IsServed theirs server came served zones → IsSent keys judgement rules request came.now served answer
-      → ServedWithKeys keys names rules server came answer zones
+  good : {judgement : Judgement} {request : ReceivedRequest} {served : Answer} {theirs : Rules} → IsForJudging keyed.keys keyed.rules came.bytes came.source
+      → Judged keyed.keys came.bytes came.now judgement → course_of judgement ≡ Sign → IsRequestOf came request
+      → AreRulesFor (is_by_one_of keyed.transfer_keys judgement) keyed.rules theirs → BytesServed theirs keyed.server came served zones
+      → IsSent keyed.keys keyed.rules (record { request = request; judgement = judgement; now = came.now }) served answer → ServedWithKeys keyed came answer zones
   -- Its signature is bad: no zone is asked.
-  bad : {judgement : Judgement} {request : ReceivedRequest} {leaving : List (List ℕ)} → IsForJudging keys rules came.bytes came.source → Judged keys came.bytes came.now judgement
-      → course_of judgement ≡ Refuse → IsRequestOf came request → IsRefused keys judgement rules request came.now leaving → answer ≡ Replies leaving
-      → zones ≡ server.zones → ServedWithKeys keys names rules server came answer zones
+  bad : {judgement : Judgement} {request : ReceivedRequest} {leaving : List (List ℕ)} → IsForJudging keyed.keys keyed.rules came.bytes came.source
+      → Judged keyed.keys came.bytes came.now judgement → course_of judgement ≡ Refuse → IsRequestOf came request
+      → IsRefused keyed.keys keyed.rules (record { request = request; judgement = judgement; now = came.now }) leaving → answer ≡ Replies leaving
+      → zones ≡ keyed.server.zones → ServedWithKeys keyed came answer zones
 
--- The zones after a message for which memory was refused: as before, or as after it where it was served and its replies are missing.
-abbrev pub LeavesWithKeys : {H : Type 0} → List DomainName → Rules → Server H → Arrival → ServeError → List (DomainName × List H) → Type 0
-LeavesWithKeys names rules server came e zones = ((e ≡ Memory) × (zones ≡ server.zones))
-    ⊎ (LeavesBytes rules server came.bytes came.source came.protocol came.now e zones
-    ⊎ ((e ≡ MemoryAfterHandling) × (judgement : Judgement) × (theirs : Rules) × AreRulesFor (is_by_one_of names judgement) rules theirs
-    × (answer : Answer) × IsServed theirs server came answer zones))
+-- The zones after a message for which memory was refused: as before, or as after it where it was served and its replies
+-- are missing.
+abbrev pub LeavesWithKeys : {H : Type 0} → KeyedServer H → Arrival → ServeError → List (DomainName × List H) → Type 0
+LeavesWithKeys keyed came e zones = ((e ≡ Memory) × (zones ≡ keyed.server.zones))
+    ⊎ (LeavesBytes keyed.rules keyed.server came e zones
+    ⊎ ((e ≡ MemoryAfterHandling) × (judgement : Judgement) × (theirs : Rules) × AreRulesFor (is_by_one_of keyed.transfer_keys judgement) keyed.rules theirs
+    × (answer : Answer) × BytesServed theirs keyed.server came answer zones))

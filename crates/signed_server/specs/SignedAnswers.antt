@@ -1,6 +1,8 @@
--- The replies to signed requests (RFC 8945 sections 5.2 and 5.3): which messages are signed, and how one is signed behind the other.
+-- The replies to signed requests (RFC 8945 sections 5.2 and 5.3): which messages are signed, and how one is signed
+-- behind the other.
 use Rattle.std.specs.Prelude.{◌≡◌, ◌≤◌, ◌-◌, ℕ, min, max, List, [], ◌∷◌, ◌++◌, length, Option, Some, None, All, true}
 use Rattle.std.specs.List.{AllZip}
+use Rattle.wire_messages.specs.Numbers.{code_form_err, code_not_auth}
 use Rattle.wire_messages.specs.op.EdnsFields.{EdnsFields}
 use Rattle.wire_messages.specs.op.Metadata.{response_to}
 use Rattle.wire_messages.specs.serialize.writing.Reply.{Reply}
@@ -13,8 +15,8 @@ use Rattle.hickory_base.specs.requests.Questions.{payload_limit}
 use Rattle.hickory_base.specs.requests.Requests.{ReceivedRequest}
 use Rattle.hickory_base.specs.responses.Responses.{error_metadata}
 use Rattle.hickory_base.specs.declared.requests.message_request.MessageRequest.{MessageRequest}
-use Rattle.hickory_catalog.specs.ReplyEdns.{reply_edns}
-use Rattle.hickory_server.specs.Ruling.{udp_limit}
+use Rattle.hickory_catalog.specs.replies.ReplyEdns.{reply_edns}
+use Rattle.hickory_server.specs.server.Ruling.{udp_limit}
 use Rattle.hickory_server.specs.declared.server.answer.Answer.{Answer}
 use Rattle.hickory_server.specs.declared.server.answer.Answer.TheVariants.{Replies}
 use Rattle.hickory_server.specs.declared.server.rules.Rules.{Rules}
@@ -25,10 +27,16 @@ use Rattle.tsig.specs.declared.judgement.Judgement.{Judgement}
 use Rattle.tsig.specs.declared.judgement.Judgement.TheVariants.{Signed}
 use Rattle.tsig.specs.declared.keys.Key.{Key}
 
+-- a request, how it was judged, and the moment of the replies in seconds since 1970
+pub record JudgedRequest : Type 0 where
+  pub request : ReceivedRequest
+  pub judgement : Judgement
+  pub now : ℕ
+
 -- ---- limits
 
--- How many bytes a reply has at most, its signature with it: over UDP what the client takes (RFC 6891 section 6.2.3) and the server allows;
--- over a stream what a length of 16 bits allows (RFC 1035 section 4.2.2).
+-- How many bytes a reply has at most, its signature with it: over UDP what the client takes (RFC 6891 section 6.2.3)
+-- and the server allows; over a stream what a length of 16 bits allows (RFC 1035 section 4.2.2).
 abbrev pub limit_over : Protocol → ℕ → ℕ
 limit_over Udp datagram = datagram
 limit_over stream datagram = 65535
@@ -56,7 +64,8 @@ bare_message metadata question count edns = record {
   signature = None;
 }
 
--- The bytes are such a message within the limit, for a request: of this header, with the request's questions, and EDNS where it has EDNS.
+-- The bytes are such a message within the limit, for a request: of this header, with the request's questions, and EDNS
+-- where it has EDNS.
 abbrev pub IsBare : ℕ → MessageRequest → Metadata → List ℕ → Type 0
 IsBare limit request metadata bytes = (header : Header)
     × ReplyEncoded limit (bare_message metadata request.queries.bytes (length request.queries.queries) (reply_edns None request.edns)) bytes header
@@ -65,10 +74,11 @@ IsBare limit request metadata bytes = (header : Header)
 abbrev pub truncated : Metadata → Metadata
 truncated request = record (response_to request) { truncation = true }
 
--- NOTAUTH, which is 9, for a wrong key, MAC or time (section 5.2); and FORMERR, which is 1, for a signature without its form
+-- NOTAUTH, which is 9, for a wrong key, MAC or time (section 5.2); and FORMERR, which is 1, for a signature without its
+-- form
 abbrev pub refusal_code : Judgement → ℕ
-refusal_code (Signed s verdict) = 9
-refusal_code other = 1
+refusal_code (Signed s verdict) = code_not_auth
+refusal_code other = code_form_err
 
 -- ---- what is signed
 
@@ -76,8 +86,8 @@ refusal_code other = 1
 abbrev pub Fits : ℕ → List ℕ → Type 0
 Fits limit message = (length message ≤ limit) × HasRoom message
 
--- The messages that are signed in the place of replies. They are these, without the signature that one may have; where one has no room for its
--- TSIG record, there is one message alone, of the question, with TC and no error (section 5.3).
+-- The messages that are signed in the place of replies. They are these, without the signature that one may have; where
+-- one has no room for its TSIG record, there is one message alone, of the question, with TC and no error (section 5.3).
 pub data AreToBeSigned (limit : ℕ) (request : MessageRequest) (replies : List (List ℕ)) (messages : List (List ℕ)) : Type 0 where
   whole : AllZip IsStripped replies messages → All (Fits limit) messages → AreToBeSigned limit request replies messages
   cut : {bytes : List ℕ} (stripped : List (List ℕ)) → AllZip IsStripped replies stripped → ¬ (All (Fits limit) stripped)
@@ -85,7 +95,8 @@ pub data AreToBeSigned (limit : ℕ) (request : MessageRequest) (replies : List 
 
 -- ---- how they are signed
 
--- The first reply is signed over the MAC of the request (section 5.3), and each further one over the MAC of the one before it (section 5.3.1).
+-- The first reply is signed over the MAC of the request (section 5.3), and each further one over the MAC of the one
+-- before it (section 5.3.1).
 abbrev pub signed_behind : List Key → Judgement → Option (List ℕ) → List ℕ → ℕ → Option SignedReply
 signed_behind keys judgement None message now = reply_of keys judgement message now
 signed_behind keys judgement (Some prior) message now = next_of keys judgement prior message now
@@ -98,21 +109,22 @@ pub data AreSigned (keys : List Key) (judgement : Judgement) (now : ℕ) : List 
       → AreSigned keys judgement now (messages ++ message ∷ []) (leaving ++ reply.bytes ∷ []) (Some reply.mac)
 
 -- What leaves in the place of replies to a request that was judged so.
-pub record AreSent (keys : List Key) (judgement : Judgement) (rules : Rules) (request : ReceivedRequest) (now : ℕ) (replies leaving : List (List ℕ)) : Type 0 where
+pub record AreSent (keys : List Key) (rules : Rules) (judged : JudgedRequest) (replies leaving : List (List ℕ)) : Type 0 where
   pub messages : List (List ℕ)
   pub last : Option (List ℕ)
-  pub to_be_signed : AreToBeSigned (message_limit keys judgement rules request) request.message replies messages
-  pub signed : AreSigned keys judgement now messages leaving last
+  pub to_be_signed : AreToBeSigned (message_limit keys judged.judgement rules judged.request) judged.request.message replies messages
+  pub signed : AreSigned keys judged.judgement judged.now messages leaving last
 
 -- What leaves in the place of an answer: of its replies, these; and an answer without a reply stays.
-abbrev pub IsSent : List Key → Judgement → Rules → ReceivedRequest → ℕ → Answer → Answer → Type 0
-IsSent keys judgement rules request now (Replies replies) answer = (leaving : List (List ℕ)) × AreSent keys judgement rules request now replies leaving × (answer ≡ Replies leaving)
-IsSent keys judgement rules request now other answer = answer ≡ other
+abbrev pub IsSent : List Key → Rules → JudgedRequest → Answer → Answer → Type 0
+IsSent keys rules judged (Replies replies) answer = (leaving : List (List ℕ)) × AreSent keys rules judged replies leaving × (answer ≡ Replies leaving)
+IsSent keys rules judged other answer = answer ≡ other
 
--- What leaves for a request whose signature is bad: the question with the code, and a TSIG record that tells why, where the request's had its form
--- (sections 5.2 and 5.3.2).
-pub record IsRefused (keys : List Key) (judgement : Judgement) (rules : Rules) (request : ReceivedRequest) (now : ℕ) (leaving : List (List ℕ)) : Type 0 where
+-- What leaves for a request whose signature is bad: the question with the code, and a TSIG record that tells why, where
+-- the request's had its form (sections 5.2 and 5.3.2).
+pub record IsRefused (keys : List Key) (rules : Rules) (judged : JudgedRequest) (leaving : List (List ℕ)) : Type 0 where
   pub message : List ℕ
   pub last : Option (List ℕ)
-  pub bare : IsBare (message_limit keys judgement rules request) request.message (error_metadata request.message.metadata (refusal_code judgement)) message
-  pub signed : AreSigned keys judgement now (message ∷ []) leaving last
+  pub bare : IsBare (message_limit keys judged.judgement rules judged.request) judged.request.message
+      (error_metadata judged.request.message.metadata (refusal_code judged.judgement)) message
+  pub signed : AreSigned keys judged.judgement judged.now (message ∷ []) leaving last

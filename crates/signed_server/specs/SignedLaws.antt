@@ -12,12 +12,13 @@ use Rattle.tsig.specs.declared.judgement.Verdict.TheVariants.{Good}
 use Rattle.tsig.specs.declared.keys.Key.{Key}
 use Rattle.wire_names.specs.rr.domain.DomainName.{DomainName}
 use Rattle.hickory_base.specs.declared.zone_store.handler.ZoneHandler.{Ghosts}
-use Rattle.hickory_catalog.specs.Server.{server_of}
-use Rattle.hickory_catalog.specs.Signing.{Signer}
+use Rattle.hickory_catalog.specs.requests.Server.{server_of}
+use Rattle.hickory_catalog.specs.replies.Signing.{Signer}
 use Rattle.hickory_catalog.specs.declared.catalog.Catalog.{Catalog}
 use Rattle.hickory_server.specs.declared.server.answer.Answer.{Answer}
 use Rattle.hickory_server.specs.declared.server.rules.Rules.{Rules}
-use Rattle.signed_server.specs.ServedWithKeys.{Arrival, IsServed, ServedWithKeys}
+use Rattle.hickory_server.specs.server.ServedBy.{Arrival, BytesServed}
+use Rattle.signed_server.specs.ServedWithKeys.{ServedWithKeys}
 use Rattle.signed_server.specs.SignedAnswers.{AreSigned, signed_behind}
 
 -- A message of bytes without a TSIG record, none of whose names leads into its header.
@@ -25,15 +26,16 @@ pub record IsWhole (message : List ℕ) : Type 0 where
   pub bytes : AreBytes message
   pub whole : IsWholeMessage message
 
--- Replies verify by the key, one behind the other: the first for the MAC of the request (RFC 8945 section 5.3), and each further one behind the
--- MAC of the one before it (section 5.3.1); with the MAC of the last.
+-- Replies verify by the key, one behind the other: the first for the MAC of the request (RFC 8945 section 5.3), and
+-- each further one behind the MAC of the one before it (section 5.3.1); with the MAC of the last.
 pub data AreVerified (key : Key) (request_mac : List ℕ) : List (List ℕ) → Option (List ℕ) → Type 0 where
   nothing : AreVerified key request_mac [] None
   first_reply : {bytes mac : List ℕ} → Verifies key request_mac bytes → AreVerified key request_mac (bytes ∷ []) (Some mac)
   further : {leaving : List (List ℕ)} {prior bytes mac : List ℕ} → AreVerified key request_mac leaving (Some prior) → VerifiesNext key prior bytes
       → AreVerified key request_mac (leaving ++ bytes ∷ []) (Some mac)
 
--- Every reply to a request that was judged good carries a MAC that verifies under the request's key, over the bytes that leave.
+-- Every reply to a request that was judged good carries a MAC that verifies under the request's key, over the bytes
+-- that leave.
 abbrev pub GoodRepliesVerify : Type 0
 GoodRepliesVerify = (keys : List Key) (request : List ℕ) (moment now : ℕ) (s : Record TSIG) (messages leaving : List (List ℕ)) (last : Option (List ℕ))
     → Judged keys request moment (Signed s Good) → ((message : List ℕ) → Contains messages message → IsWhole message) → AreSigned keys (Signed s Good) now messages leaving last
@@ -57,4 +59,5 @@ BadRepliesAreBare = (keys : List Key) (judgement : Judgement) (message : List �
 -- Without a key every message is served as by the server without keys, whichever keys may have transfers from anywhere.
 abbrev pub KeylessServesAll : {S H : Type 0} → Ghosts H → (S → Signer) → Type 0
 KeylessServesAll {S} {H} handler signature_for = (catalog : Catalog S H) (names : List DomainName) (rules : Rules) (came : Arrival) (answer : Answer) (zones : List (DomainName × List H))
-    → ServedWithKeys [] names rules (server_of handler signature_for catalog) came answer zones ↔ IsServed rules (server_of handler signature_for catalog) came answer zones
+    → ServedWithKeys (record { keys = []; transfer_keys = names; rules = rules; server = server_of handler signature_for catalog }) came answer zones
+    ↔ BytesServed rules (server_of handler signature_for catalog) came answer zones

@@ -14,9 +14,9 @@ use Rattle.hickory_server.specs.declared.server.answer.Answer.{Answer}
 use Rattle.hickory_server.specs.declared.server.answer.Answer.TheVariants.{Replies, Unreadable}
 use Rattle.signed_server.specs.SignedAnswers.{bare_message}
 
--- The first fault of a message is a record behind its TSIG, as a second TSIG, or a TSIG, OPT or SIG among its answers or authorities: "If multiple TSIG
--- records are detected or a TSIG record is present in any other position, the DNS message is dropped and a response with RCODE 1 (FORMERR) MUST be
--- returned" (RFC 8945 section 5.1).
+-- The first fault of a message is a record behind its TSIG, as a second TSIG, or a TSIG, OPT or SIG among its answers
+-- or authorities: "If multiple TSIG records are detected or a TSIG record is present in any other position, the DNS
+-- message is dropped and a response with RCODE 1 (FORMERR) MUST be returned" (RFC 8945 section 5.1).
 abbrev pub is_misplaced : DecodeError → Bool
 is_misplaced RecordAfterSignature = true
 is_misplaced RecordNotInAdditionals = true

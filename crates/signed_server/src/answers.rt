@@ -100,7 +100,8 @@ pub(crate) fn sent(
     now: u64,
     replies: Items<Octets>,
 ) -> Result<Items<Octets>, AllocError>
-    ensures { IfOk result (AreSent keys.now judgement.now rules.now request.now now replies) }
+    ensures { IfOk result (AreSent keys.now rules.now
+        (record { request = request.now; judgement = judgement.now; now = now }) replies) }
 {
     let limit = message_limit(keys, judgement, rules, request);
     let messages = to_be_signed(alloc, request.message(), limit, replies)?;
@@ -135,7 +136,8 @@ pub(crate) fn refused(
     request: &Request,
     now: u64,
 ) -> Result<Items<Octets>, AllocError>
-    ensures { IfOk result (IsRefused keys.now judgement.now rules.now request.now now) }
+    ensures { IfOk result (IsRefused keys.now rules.now
+        (record { request = request.now; judgement = judgement.now; now = now })) }
 {
     let limit = message_limit(keys, judgement, rules, request);
     let message = request.message();

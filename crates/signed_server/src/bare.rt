@@ -4,7 +4,7 @@ ghost use Rattle.std.specs.Prelude.{◌≡◌, IfOk, None, Some};
 ghost use Rattle.std.specs.Option.{option_copied};
 ghost use Rattle.wire_messages.specs.declared.op.header.Header.{Header};
 ghost use Rattle.hickory_wire.specs.serialize.writing.ReplyParts.{ReplyEncoded};
-ghost use Rattle.hickory_catalog.specs.ReplyEdns.{reply_edns};
+ghost use Rattle.hickory_catalog.specs.replies.ReplyEdns.{reply_edns};
 ghost use Rattle.signed_server.specs.SignedAnswers.{IsBare, bare_message};
 
 use hickory_base::message_request::MessageRequest;
@@ -40,7 +40,9 @@ pub(crate) fn encoded<'a>(
     edns: Option<&'a Edns>,
     limit: u16,
 ) -> Result<Octets, AllocError>
-    ensures { IfOk result (λ bytes. (header : Header) × ReplyEncoded limit (bare_message metadata question.now question_count (option_copied edns.entry)) bytes header) }
+    ensures { IfOk result (λ bytes. (header : Header) ×
+        ReplyEncoded limit (bare_message metadata question.now question_count (option_copied edns.entry)) bytes
+        header) }
 {
     let nothing: &[Record] = &[];
     let parts = ReplyParts {
@@ -60,7 +62,8 @@ pub(crate) fn encoded<'a>(
     }
 }
 
-/// The bytes of a message of this header, with the questions of a request, its EDNS where it has EDNS, and nothing else, within a limit.
+/// The bytes of a message of this header, with the questions of a request, its EDNS where it has EDNS, and nothing
+/// else, within a limit.
 pub(crate) fn bare(
     alloc: Global,
     message: &MessageRequest,

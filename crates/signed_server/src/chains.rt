@@ -28,7 +28,8 @@ fn put_signed(
     out: &mut Vec<u8>,
 ) -> Result<Octets, SigningError>
     requires { out.old.items ≡ [] }
-    ensures { IfOk result (λ mac. signed_behind keys.now judgement.now (option_copied prior.entry) message.now now ≡ Some (record { bytes = out.new.items; mac = mac })) }
+    ensures { IfOk result (λ mac. signed_behind keys.now judgement.now (option_copied prior.entry) message.now
+        now ≡ Some (record { bytes = out.new.items; mac = mac })) }
 {
     match prior {
         None => sign(alloc, keys, judgement, message, now, out),
@@ -45,7 +46,8 @@ fn signed_behind(
     message: &[u8],
     now: u64,
 ) -> Result<Leaving, AllocError>
-    ensures { IfOk result (λ made. signed_behind keys.now judgement.now (option_copied prior.entry) message.now now ≡ Some (record { bytes = made.bytes; mac = made.mac })) }
+    ensures { IfOk result (λ made. signed_behind keys.now judgement.now (option_copied prior.entry) message.now
+        now ≡ Some (record { bytes = made.bytes; mac = made.mac })) }
 {
     let mut out = Vec::new(alloc);
     match put_signed(alloc, keys, judgement, prior, message, now, &mut out) {
@@ -57,7 +59,8 @@ fn signed_behind(
     }
 }
 
-/// What leaves of messages: the first is signed over the MAC of the request, and each further one over the MAC of the one before it.
+/// What leaves of messages: the first is signed over the MAC of the request, and each further one over the MAC of the
+/// one before it.
 pub(crate) fn signed(
     alloc: Global,
     keys: &Keys,
@@ -65,7 +68,8 @@ pub(crate) fn signed(
     messages: Vec<Octets>,
     now: u64,
 ) -> Result<Items<Octets>, AllocError>
-    ensures { IfOk result (λ leaving. (last : Option (List ℕ)) × AreSigned keys.now judgement.now now messages.items leaving last) }
+    ensures { IfOk result (λ leaving. (last : Option (List ℕ)) ×
+        AreSigned keys.now judgement.now now messages.items leaving last) }
 {
     let mut leaving = Items::new(alloc);
     let mut prior: Option<Octets> = None;

@@ -1,5 +1,5 @@
-//! A server with keys: it judges the transaction signature (TSIG, RFC 8945) of every message before its zones are asked, and signs every reply to
-//! a signed request over the bytes that leave.
+//! A server with keys: it judges the transaction signature (TSIG, RFC 8945) of every message before its zones are
+//! asked, and signs every reply to a signed request over the bytes that leave.
 #![tactic(auto)]
 
 mod answers;

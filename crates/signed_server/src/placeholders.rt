@@ -7,8 +7,8 @@ use hickory_catalog::signer::{ReplySigner, SignError};
 use hickory_wire::{Boxed, DNSClass, Name, Octets, Proof, Record, TSIG, TSigResponseContext};
 use std::alloc::Global;
 
-/// The signer of a catalog whose replies a [`SignedServer`](crate::SignedServer) signs. It computes no digest: each reply has a TSIG record that signs
-/// nothing, and the server signs in its place, over the bytes that leave.
+/// The signer of a catalog whose replies a [`SignedServer`](crate::SignedServer) signs. It computes no digest: each
+/// reply has a TSIG record that signs nothing, and the server signs in its place, over the bytes that leave.
 #[derive(Drop)]
 pub struct LeftToServer;
 

@@ -3,13 +3,14 @@
 ghost use Rattle.std.specs.Prelude.{◌≡◌, ◌≢◌, ◌↔◌, [], IfErr, IfOk, IsTrue};
 ghost use Rattle.std.specs.List.{list_any};
 ghost use Rattle.wire_names.specs.rr.domain.NameOrder.{name_eq};
-ghost use Rattle.hickory_catalog.specs.Server.{server_of};
+ghost use Rattle.hickory_catalog.specs.requests.Server.{server_of};
+ghost use Rattle.hickory_server.specs.server.ServedBy.{BytesServed, LeavesBytes, arrival};
 ghost use Rattle.hickory_server.specs.declared.server.answer.Answer.{Answer as Outcome};
 ghost use Rattle.hickory_server.specs.declared.server.rules.Rules.{Rules as Ruled};
 ghost use Rattle.tsig.specs.Judging.{Judged};
-ghost use Rattle.signed_server.specs.ServedWithKeys.{AreRulesFor, CountsNoRecord, IsForJudging, IsRequestWithKeys, IsServed, LeavesWithKeys, ServedWithKeys, arrival, course_of, is_by_one_of};
+ghost use Rattle.signed_server.specs.KeyedServers.{keyed_of};
+ghost use Rattle.signed_server.specs.ServedWithKeys.{AreRulesFor, CountsNoRecord, IsForJudging, IsRequestWithKeys, LeavesWithKeys, ServedWithKeys, course_of, is_by_one_of};
 ghost use Rattle.signed_server.specs.SignedAnswers.{IsSent};
-ghost use Rattle.hickory_server.specs.ServedBy.{LeavesBytes};
 
 use crate::answers::{refused, sent};
 use crate::unread::unread;
@@ -119,8 +120,11 @@ fn serve_opened<S: ReplySigner, H: ZoneHandler>(
     ensures rules { server.new.rules ≡ server.old.rules }
     ensures others { server.new.catalog ≡ record server.old.catalog { zones = server.new.catalog.zones } }
     ensures ok { IfOk result (λ answer. (theirs : Ruled) × AreRulesFor is_open server.old.rules theirs ×
-        IsServed theirs (server_of H.ZoneHandler S.signature_for server.old.catalog) (arrival bytes.now src protocol now) answer server.new.catalog.zones) }
-    ensures err { IfErr result (λ e. LeavesBytes server.old.rules (server_of H.ZoneHandler S.signature_for server.old.catalog) bytes.now src protocol now e server.new.catalog.zones) }
+        BytesServed theirs (server_of H.ZoneHandler S.signature_for server.old.catalog)
+        (arrival bytes.now src protocol now) answer server.new.catalog.zones) }
+    ensures err { IfErr result (λ e.
+        LeavesBytes server.old.rules (server_of H.ZoneHandler S.signature_for server.old.catalog)
+        (arrival bytes.now src protocol now) e server.new.catalog.zones) }
 {
     if !is_open {
         return server.serve(alloc, bytes, src, protocol, now);
@@ -146,10 +150,18 @@ fn serve_good<S: ReplySigner, H: ZoneHandler>(
 ) -> Result<Answer, ServeError>
     ensures rules { server.new.rules ≡ server.old.rules }
     ensures others { server.new.catalog ≡ record server.old.catalog { zones = server.new.catalog.zones } }
-    ensures ok { IfOk result (λ answer. (theirs : Ruled) × (served : Outcome) × AreRulesFor (is_by_one_of names.now judgement.now) server.old.rules theirs ×
-        IsServed theirs (server_of H.ZoneHandler S.signature_for server.old.catalog) (arrival bytes.now src protocol now) served server.new.catalog.zones ×
-        IsSent keys.now judgement.now server.old.rules request.now now served answer) }
-    ensures err { IfErr result (λ e. LeavesWithKeys names.now server.old.rules (server_of H.ZoneHandler S.signature_for server.old.catalog) (arrival bytes.now src protocol now) e server.new.catalog.zones) }
+    ensures ok { IfOk result (λ answer. (theirs : Ruled) × (served : Outcome) ×
+        AreRulesFor (is_by_one_of names.now judgement.now) server.old.rules theirs ×
+        BytesServed theirs (server_of H.ZoneHandler S.signature_for server.old.catalog)
+        (arrival bytes.now src protocol now) served server.new.catalog.zones ×
+        IsSent keys.now server.old.rules (record { request = request.now; judgement = judgement.now; now = now })
+        served answer) }
+    ensures err { IfErr result (λ e. LeavesWithKeys (record {
+      keys = keys.now;
+      transfer_keys = names.now;
+      rules = server.old.rules;
+      server = server_of H.ZoneHandler S.signature_for server.old.catalog;
+    }) (arrival bytes.now src protocol now) e server.new.catalog.zones) }
 {
     let is_open = is_by_one_of(names, judgement);
     let replies = match serve_opened(alloc, is_open, server, bytes, src, protocol, now) {
@@ -173,10 +185,12 @@ fn empty_request(alloc: Global) -> Result<Request, AllocError> {
     }
 }
 
-/// A server with keys: the server, the keys that it judges signatures by, and the signed request that it read last, in whose place it reads the next.
+/// A server with keys: the server, the keys that it judges signatures by, and the signed request that it read last, in
+/// whose place it reads the next.
 ///
-/// The handlers of zones that take updates are to judge by a [`TsigVerifier`](tsig::TsigVerifier) of the same keys. Whatever signer the catalog has, the
-/// signatures that it gives are taken off, and replies are signed anew; [`LeftToServer`](crate::LeftToServer) computes none.
+/// The handlers of zones that take updates are to judge by a [`TsigVerifier`](tsig::TsigVerifier) of the same keys.
+/// Whatever signer the catalog has, the signatures that it gives are taken off, and replies are signed anew;
+/// [`LeftToServer`](crate::LeftToServer) computes none.
 #[derive(Drop)]
 pub struct SignedServer<S: ReplySigner, H: ZoneHandler> {
     /// The server.
@@ -224,9 +238,12 @@ impl<S: ReplySigner, H: ZoneHandler> SignedServer<S, H> {
         ensures keys { self.new.keys ≡ self.old.keys }
         ensures names { self.new.transfer_keys ≡ self.old.transfer_keys }
         ensures rules { self.new.server.rules ≡ self.old.server.rules }
-        ensures others { self.new.server.catalog ≡ record self.old.server.catalog { zones = self.new.server.catalog.zones } }
-        ensures ok { IfOk result (λ answer. ServedWithKeys self.old.keys self.old.transfer_keys.items self.old.server.rules (server_of H.ZoneHandler S.signature_for self.old.server.catalog) (arrival bytes.now src protocol now) answer self.new.server.catalog.zones) }
-        ensures err { IfErr result (λ e. LeavesWithKeys self.old.transfer_keys.items self.old.server.rules (server_of H.ZoneHandler S.signature_for self.old.server.catalog) (arrival bytes.now src protocol now) e self.new.server.catalog.zones) }
+        ensures others { self.new.server.catalog ≡ record self.old.server.catalog
+            { zones = self.new.server.catalog.zones } }
+        ensures ok { IfOk result (λ answer. ServedWithKeys (keyed_of H.ZoneHandler S.signature_for self.old)
+            (arrival bytes.now src protocol now) answer self.new.server.catalog.zones) }
+        ensures err { IfErr result (λ e. LeavesWithKeys (keyed_of H.ZoneHandler S.signature_for self.old)
+            (arrival bytes.now src protocol now) e self.new.server.catalog.zones) }
     {
         match self.request.read_in_place(alloc, bytes, src, protocol) {
             Ok(()) => {}
@@ -251,23 +268,32 @@ impl<S: ReplySigner, H: ZoneHandler> SignedServer<S, H> {
         }
     }
 
-    /// Serves one message, which came from this address over this transport, at this moment in seconds since 1970: what becomes of it.
+    /// Serves one message, which came from this address over this transport, at this moment in seconds since 1970: what
+    /// becomes of it.
     ///
-    /// It is judged by the keys (RFC 8945 section 5.2), unless there is none, or its address may not use the server, or it has no header, or is itself a
-    /// response, or counts no record behind its questions: then, and where it has no TSIG record, it is served as [`Server::serve`] serves it. Where its signature is good, it is served so too,
-    /// TSIG record and all, by rules that let everybody have transfers where the key is one of `transfer_keys`, and every reply is signed over the bytes
-    /// that leave, the first over the MAC of the request, and each further one of a transfer over the MAC of the one before it (sections 5.3 and 5.3.1).
-    /// A reply that has no room for its TSIG record is replaced by the question alone, with TC and no error (section 5.3). The room is what the client
-    /// takes and the rules allow over UDP, and 65,535 bytes over a stream.
+    /// It is judged by the keys (RFC 8945 section 5.2), unless there is none, or its address may not use the server, or
+    /// it has no header, or is itself a response, or counts no record behind its questions: then, and where it has no
+    /// TSIG record, it is served as [`Server::serve`] serves it. Where its signature is good, it is served so too, TSIG
+    /// record and all, by rules that let everybody have transfers where the key is one of `transfer_keys`, and every
+    /// reply is signed over the bytes that leave, the first over the MAC of the request, and each further one of a
+    /// transfer over the MAC of the one before it (sections 5.3 and 5.3.1). A reply that has no room for its TSIG
+    /// record is replaced by the question alone, with TC and no error (section 5.3). The room is what the client takes
+    /// and the rules allow over UDP, and 65,535 bytes over a stream.
     ///
-    /// Where the signature is bad, no zone is asked. The reply is NOTAUTH with BADKEY, BADSIG, BADTIME or BADTRUNC in its TSIG record; of these BADTIME,
-    /// with the server's time, and BADTRUNC are signed (section 5.2). It is FORMERR, without a TSIG record, where the TSIG record has no form, and a header
-    /// alone that says FORMERR where a record stands behind the TSIG record, or a TSIG record in another section (section 5.1). Any other message that
-    /// cannot be read is unreadable, and has no reply.
+    /// Where the signature is bad, no zone is asked. The reply is NOTAUTH with BADKEY, BADSIG, BADTIME or BADTRUNC in
+    /// its TSIG record; of these BADTIME, with the server's time, and BADTRUNC are signed (section 5.2). It is FORMERR,
+    /// without a TSIG record, where the TSIG record has no form, and a header alone that says FORMERR where a record
+    /// stands behind the TSIG record, or a TSIG record in another section (section 5.1). Any other message that cannot
+    /// be read is unreadable, and has no reply.
     ///
-    /// `Memory` says that the catalog is as before, and `MemoryAfterHandling` that the message was handled and its replies are missing. Where there are
-    /// keys, an unsigned message that counts a record, as an OPT record, is read once more than by [`Server::serve`]. Here each byte of a signed one, and of each reply to it, is hashed once;
-    /// handlers that take updates judge by themselves, and hash the message again.
+    /// Where there are keys, an unsigned message that counts a record, as an OPT record, is read once more than by
+    /// [`Server::serve`]. Here each byte of a signed one, and of each reply to it, is hashed once; handlers that take
+    /// updates judge by themselves, and hash the message again.
+    ///
+    /// # Errors
+    ///
+    /// `Memory` says that the catalog is as before, and `MemoryAfterHandling` that the message was handled and its
+    /// replies are missing.
     pub fn serve(
         &mut self,
         alloc: Global,
@@ -279,15 +305,18 @@ impl<S: ReplySigner, H: ZoneHandler> SignedServer<S, H> {
         ensures keys { self.new.keys ≡ self.old.keys }
         ensures names { self.new.transfer_keys ≡ self.old.transfer_keys }
         ensures rules { self.new.server.rules ≡ self.old.server.rules }
-        ensures others { self.new.server.catalog ≡ record self.old.server.catalog { zones = self.new.server.catalog.zones } }
-        ensures ok { IfOk result (λ answer. ServedWithKeys self.old.keys self.old.transfer_keys.items self.old.server.rules (server_of H.ZoneHandler S.signature_for self.old.server.catalog) (arrival bytes.now src protocol now) answer self.new.server.catalog.zones) }
-        ensures err { IfErr result (λ e. LeavesWithKeys self.old.transfer_keys.items self.old.server.rules (server_of H.ZoneHandler S.signature_for self.old.server.catalog) (arrival bytes.now src protocol now) e self.new.server.catalog.zones) }
+        ensures others { self.new.server.catalog ≡ record self.old.server.catalog
+            { zones = self.new.server.catalog.zones } }
+        ensures ok { IfOk result (λ answer. ServedWithKeys (keyed_of H.ZoneHandler S.signature_for self.old)
+            (arrival bytes.now src protocol now) answer self.new.server.catalog.zones) }
+        ensures err { IfErr result (λ e. LeavesWithKeys (keyed_of H.ZoneHandler S.signature_for self.old)
+            (arrival bytes.now src protocol now) e self.new.server.catalog.zones) }
     {
         self.serve_reusing(alloc, bytes, src, protocol, now, Items::new(alloc))
     }
 
-    /// Serves one message as `serve` does. The memory of these replies, as those to an earlier message, is used again for
-    /// those that the zones give to this one, where it is not judged.
+    /// Serves one message as `serve` does. The memory of these replies, as those to an earlier message, is used again
+    /// for those that the zones give to this one, where it is not judged.
     // speed: served, an address
     #[inline(always)]
     pub fn serve_reusing(
@@ -304,12 +333,9 @@ impl<S: ReplySigner, H: ZoneHandler> SignedServer<S, H> {
         ensures rules { self.new.server.rules ≡ self.old.server.rules }
         ensures others { self.new.server.catalog
             ≡ record self.old.server.catalog { zones = self.new.server.catalog.zones } }
-        ensures ok { IfOk result (λ answer. ServedWithKeys
-            self.old.keys self.old.transfer_keys.items self.old.server.rules
-            (server_of H.ZoneHandler S.signature_for self.old.server.catalog)
+        ensures ok { IfOk result (λ answer. ServedWithKeys (keyed_of H.ZoneHandler S.signature_for self.old)
             (arrival bytes.now src protocol now) answer self.new.server.catalog.zones) }
-        ensures err { IfErr result (λ e. LeavesWithKeys self.old.transfer_keys.items self.old.server.rules
-            (server_of H.ZoneHandler S.signature_for self.old.server.catalog)
+        ensures err { IfErr result (λ e. LeavesWithKeys (keyed_of H.ZoneHandler S.signature_for self.old)
             (arrival bytes.now src protocol now) e self.new.server.catalog.zones) }
     {
         if !is_for_judging(&self.keys, &self.server.rules, bytes, src) {
@@ -335,12 +361,9 @@ impl<S: ReplySigner, H: ZoneHandler> SignedServer<S, H> {
         ensures rules { self.new.server.rules ≡ self.old.server.rules }
         ensures others { self.new.server.catalog
             ≡ record self.old.server.catalog { zones = self.new.server.catalog.zones } }
-        ensures ok { IfOk result (λ answer. ServedWithKeys
-            self.old.keys self.old.transfer_keys.items self.old.server.rules
-            (server_of H.ZoneHandler S.signature_for self.old.server.catalog)
+        ensures ok { IfOk result (λ answer. ServedWithKeys (keyed_of H.ZoneHandler S.signature_for self.old)
             (arrival bytes.now src protocol now) answer self.new.server.catalog.zones) }
-        ensures err { IfErr result (λ e. LeavesWithKeys self.old.transfer_keys.items self.old.server.rules
-            (server_of H.ZoneHandler S.signature_for self.old.server.catalog)
+        ensures err { IfErr result (λ e. LeavesWithKeys (keyed_of H.ZoneHandler S.signature_for self.old)
             (arrival bytes.now src protocol now) e self.new.server.catalog.zones) }
     {
         let Ok(judgement) = judge(alloc, &self.keys, bytes, now) else {

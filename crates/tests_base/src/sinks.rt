@@ -6,7 +6,7 @@ ghost use Rattle.std.specs.Option.{option_copied};
 ghost use Rattle.wire_messages.specs.serialize.writing.Reply.{size_limit};
 ghost use Rattle.hickory_wire.specs.serialize.writing.ReplyParts.{ReplyEncoded};
 ghost use Rattle.wire_messages.specs.declared.protocol.Protocol.TheVariants as protocol;
-ghost use Rattle.hickory_base.specs.responses.Responses.{GivesBy, IsReplyBy};
+ghost use Rattle.hickory_base.specs.responses.Responses.{GivesBy, IsReplyOf};
 
 use crate::fixtures::{QUERY, request};
 use hickory_base::errors::CatalogError;
@@ -55,7 +55,14 @@ impl Model for KeptEdns {
 
     ghost Value = { EdnsFields };
 
-    ghost view = { λ e. record { max_payload = e.max_payload; rcode_high = e.rcode_high; version = e.version; dnssec_ok = e.dnssec_ok; reserved_flags = e.reserved_flags; options = e.options } };
+    ghost view = { λ e. record {
+      max_payload = e.max_payload;
+      rcode_high = e.rcode_high;
+      version = e.version;
+      dnssec_ok = e.dnssec_ok;
+      reserved_flags = e.reserved_flags;
+      options = e.options;
+    } };
 }
 
 fn copied_options(alloc: Global, options: &[EdnsOption]) -> Result<Items<EdnsOption>, AllocError>
@@ -103,7 +110,19 @@ impl Model for KeptReply {
 
     ghost Value = { Reply };
 
-    ghost view = { λ r. record { metadata = r.metadata; question = r.question; question_count = r.question_count; edns = r.edns; answers = r.answers; authorities = r.authorities; soa = r.soa; additionals = r.additionals; signature = r.signature } };
+    ghost view = { λ r. record {
+      metadata = r.metadata;
+      question = r.question;
+      question_count = r.question_count;
+      edns =
+          r.edns;
+      answers = r.answers;
+      authorities = r.authorities;
+      soa = r.soa;
+      additionals = r.additionals;
+      signature =
+          r.signature;
+    } };
 }
 
 /// The reply of a response.
@@ -124,7 +143,9 @@ where
     requires authorities { N.can_next response.authorities × IsFinite (N.remaining response.authorities) }
     requires soa { S.can_next response.soa × IsFinite (S.remaining response.soa) }
     requires additionals { D.can_next response.additionals × IsFinite (D.remaining response.additionals) }
-    ensures { IfOk result (λ kept. IsReplyBy A.next_gives A.Item.record_of N.next_gives N.Item.record_of S.next_gives S.Item.record_of D.next_gives D.Item.record_of response.entry kept) }
+    ensures { IfOk result (λ kept.
+        IsReplyOf (GivesBy A.next_gives A.Item.record_of) (GivesBy N.next_gives N.Item.record_of)
+        (GivesBy S.next_gives S.Item.record_of) (GivesBy D.next_gives D.Item.record_of) response.entry kept) }
 {
     Ok(KeptReply {
         metadata: response.metadata,
@@ -281,7 +302,8 @@ impl ResponseHandler for DatagramSink {
 
     ghost settings = { λ _. tt };
 
-    ghost shows = { λ _ reply bytes. (header : _) × ReplyEncoded (size_limit protocol.Udp reply.edns) reply bytes header };
+    ghost shows = { λ _ reply bytes. (header : _) ×
+        ReplyEncoded (size_limit protocol.Udp reply.edns) reply bytes header };
 
     ghost informs = { λ _ reply bytes header. ReplyEncoded (size_limit protocol.Udp reply.edns) reply bytes header };
 
@@ -355,7 +377,8 @@ impl ResponseHandler for CountingSink {
 
     ghost shows = { λ _ _ _. Unit {0} };
 
-    ghost informs = { λ _ reply _ header. (bytes : _) × ReplyEncoded (size_limit protocol.Udp reply.edns) reply bytes header };
+    ghost informs = { λ _ reply _ header. (bytes : _) ×
+        ReplyEncoded (size_limit protocol.Udp reply.edns) reply bytes header };
 
     ghost failures = { λ sink. sink.failures };
 

@@ -1,9 +1,10 @@
-//! Updates a zone with a journal as the lines of its input say: `tests_durable PATH` does the entries of the journal in this file to a zone of an SOA
-//! record alone, prints each record of the zone behind `= `, and then obeys the lines of the input. Each word of a line is a request in hex digits; a line
-//! of one word is updated by itself, and one of more as a batch. What the requests of a line are answered is printed before the next line is obeyed.
-//! `tests_durable --two PATH` does the same with a journal in two files by turns, this one and `PATH-wal`; there a line `compact` compacts it, and a line
-//! `compact N` where it is longer than N bytes. The status is 0, 2 for wrong arguments, 3 without memory, 4 where input or output fail, and 5 where there
-//! is no journal.
+//! Updates a zone with a journal as the lines of its input say: `tests_durable PATH` does the entries of the journal in
+//! this file to a zone of an SOA record alone, prints each record of the zone behind `= `, and then obeys the lines of
+//! the input. Each word of a line is a request in hex digits; a line of one word is updated by itself, and one of more
+//! as a batch. What the requests of a line are answered is printed before the next line is obeyed. `tests_durable --two
+//! PATH` does the same with a journal in two files by turns, this one and `PATH-wal`; there a line `compact` compacts
+//! it, and a line `compact N` where it is longer than N bytes. The status is 0, 2 for wrong arguments, 3 without
+//! memory, 4 where input or output fail, and 5 where there is no journal.
 #![tactic(auto)]
 
 mod fault;
@@ -17,7 +18,7 @@ use hickory_base::errors::UpdateFault;
 use hickory_base::server::Request;
 use hickory_base::zone_store::{AxfrPolicy, RecordSet, ZoneHandler, ZoneType};
 use hickory_server::store::file::read_zone;
-use hickory_store::sqlite::SqliteZoneHandler;
+use hickory_store::updates::UpdatableZoneHandler;
 use hickory_wire::{Name, ProtoError, Protocol};
 use sqlite_disk::{Disk, Files};
 use sqlite_std_file::{Unknown, open};
@@ -170,7 +171,7 @@ fn print_set(rt: &HostRuntime, set: &RecordSet) -> Result<(), Fault> {
 }
 
 /// Prints the records of a zone.
-fn print_zone(rt: &HostRuntime, zone: &SqliteZoneHandler<Trusting>) -> Result<(), Fault> {
+fn print_zone(rt: &HostRuntime, zone: &UpdatableZoneHandler<Trusting>) -> Result<(), Fault> {
     for set in zone.in_memory().records().values() {
         print_set(rt, set)?;
     }
@@ -178,13 +179,13 @@ fn print_zone(rt: &HostRuntime, zone: &SqliteZoneHandler<Trusting>) -> Result<()
 }
 
 /// The zone of before the first entry.
-fn first_zone(alloc: Global) -> Result<SqliteZoneHandler<Trusting>, Fault> {
+fn first_zone(alloc: Global) -> Result<UpdatableZoneHandler<Trusting>, Fault> {
     let Ok(mut apex) = Name::from_ascii(alloc, "example.com") else {
         return Err(Fault::Memory);
     };
     apex.set_fqdn(true);
     let zone = read_zone(alloc, ZONE, &apex, ZoneType::Primary, AxfrPolicy::Deny)?;
-    Ok(SqliteZoneHandler::new(zone, AxfrPolicy::Deny, true, Trusting))
+    Ok(UpdatableZoneHandler::new(zone, AxfrPolicy::Deny, true, Trusting))
 }
 
 /// The fault of a journal that was not opened.

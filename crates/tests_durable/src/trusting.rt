@@ -2,7 +2,7 @@
 
 ghost use Rattle.std.specs.Prelude.{true, Some};
 
-use hickory_store::sqlite::{Verifier, VerifyError};
+use hickory_store::updates::{Verifier, VerifyError};
 use hickory_wire::Name;
 use std::alloc::Global;
 use std::ops::Range;

@@ -1,7 +1,8 @@
-//! Adds the lines of its input to a journal: `tests_journal PATH` recovers the journal in this file, prints each entry behind `= ` in hex
-//! digits, and then obeys the lines of the input: `clear` takes all entries out, `replace` puts generation 7 and its words in the place of all, and
-//! every other line is a batch, each word of it an entry. What became of a line is printed before the next one is obeyed. The status is
-//! 0, 2 for wrong arguments, 3 without memory, 4 where input or output fail, and 5 where there is no journal.
+//! Adds the lines of its input to a journal: `tests_journal PATH` recovers the journal in this file, prints each entry
+//! behind `= ` in hex digits, and then obeys the lines of the input: `clear` takes all entries out, `replace` puts
+//! generation 7 and its words in the place of all, and every other line is a batch, each word of it an entry. What
+//! became of a line is printed before the next one is obeyed. The status is 0, 2 for wrong arguments, 3 without memory,
+//! 4 where input or output fail, and 5 where there is no journal.
 #![tactic(auto)]
 
 mod fault;

@@ -1,6 +1,7 @@
-//! Tells what becomes of lists of blocked names: `tests_lists list` takes its input as one list, and prints its plain lines, its counts and how many
-//! names are on the list of blocked names then; `tests_lists each` takes each line of its input as a list, and prints a line for it: the names
-//! that it gives, `none` where it gives none, or `skipped`. The status is 0, 2 for wrong arguments, 3 without memory, and 4 where input or output fail.
+//! Tells what becomes of lists of blocked names: `tests_lists list` takes its input as one list, and prints its plain
+//! lines, its counts and how many names are on the list of blocked names then; `tests_lists each` takes each line of
+//! its input as a list, and prints a line for it: the names that it gives, `none` where it gives none, or `skipped`.
+//! The status is 0, 2 for wrong arguments, 3 without memory, and 4 where input or output fail.
 #![tactic(auto)]
 
 mod fault;

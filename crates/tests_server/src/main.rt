@@ -1,7 +1,7 @@
-//! Serves a list of messages by `serve_all`, and prints what became of each: `tests_server list|each` reads lines `ADDRESS HEX`, each a
-//! datagram from this address, and hands them to the server as one list, or each as a list of its own. The server denies 10.0.0.0/8, and has
-//! the zone example.com, which takes every update that is signed. The status is 0, 2 for wrong arguments, 3 without memory, 4 where input or output fail,
-//! and 5 where a line is none.
+//! Serves a list of messages by `serve_all`, and prints what became of each: `tests_server list|each` reads lines
+//! `ADDRESS HEX`, each a datagram from this address, and hands them to the server as one list, or each as a list of its
+//! own. The server denies 10.0.0.0/8, and has the zone example.com, which takes every update that is signed. The status
+//! is 0, 2 for wrong arguments, 3 without memory, 4 where input or output fail, and 5 where a line is none.
 #![tactic(auto)]
 
 mod fault;

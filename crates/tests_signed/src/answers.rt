@@ -52,7 +52,8 @@ fn put_served(
     Ok(())
 }
 
-/// Serves the message of a line, and puts what becomes of it behind a text, and a point behind that. A comment is put there as it is.
+/// Serves the message of a line, and puts what becomes of it behind a text, and a point behind that. A comment is put
+/// there as it is.
 pub fn serve_line(
     alloc: Global,
     server: &mut Signing,

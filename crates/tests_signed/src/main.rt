@@ -1,7 +1,8 @@
-//! Serves messages by `SignedServer`, and prints what becomes of each: `tests_signed` reads lines `TRANSPORT ADDRESS SECONDS HEX`, with transport
-//! `udp` or `tcp` and the moment in seconds since 1970, and prints `denied`, `response`, `unreadable` or the bytes of each reply, and behind that a line
-//! with a point; a line that begins with `#` it prints. It serves a zone that takes updates under its keys. The status is 0, 3 without memory,
-//! 4 where input or output fail, and 5 where a line is none.
+//! Serves messages by `SignedServer`, and prints what becomes of each: `tests_signed` reads lines `TRANSPORT ADDRESS
+//! SECONDS HEX`, with transport `udp` or `tcp` and the moment in seconds since 1970, and prints `denied`, `response`,
+//! `unreadable` or the bytes of each reply, and behind that a line with a point; a line that begins with `#` it prints.
+//! It serves a zone that takes updates under its keys. The status is 0, 3 without memory, 4 where input or output fail,
+//! and 5 where a line is none.
 #![tactic(auto)]
 
 mod answers;

@@ -103,7 +103,8 @@ fn transfers(alloc: Global) -> Result<AccessControl, Fault> {
     }
 }
 
-/// The rules of the server: 10.0.0.0/8 may not use it, 192.0.2.0/24 alone may have transfers, and a reply over UDP has at most 600 bytes.
+/// The rules of the server: 10.0.0.0/8 may not use it, 192.0.2.0/24 alone may have transfers, and a reply over UDP has
+/// at most 600 bytes.
 fn rules(alloc: Global) -> Result<Rules, Fault> {
     let access = access(alloc)?;
     match transfers(alloc) {

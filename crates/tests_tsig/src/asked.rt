@@ -3,7 +3,7 @@
 use crate::fault::Fault;
 use crate::state::State;
 use hex::FromHexError;
-use hickory_store::sqlite::{Verifier, VerifyError};
+use hickory_store::updates::{Verifier, VerifyError};
 use hickory_wire::{Name, NameError, RecordType};
 use std::alloc::{AllocError, Global};
 use tsig::{

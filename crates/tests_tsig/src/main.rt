@@ -1,11 +1,13 @@
-//! Judges and signs messages by keys, for tests: each line of the standard input asks one thing, and its answer is a line of the output.
+//! Judges and signs messages by keys, for tests: each line of the standard input asks one thing, and its answer is a
+//! line of the output.
 //!
-//! `key ALGORITHM:NAME:SECRET [SHORTEST]` adds a key, and `file TEXT` the keys of a text whose line ends are written `|`; both tell how many
-//! there are, or what is wrong. `hmac FUNCTION KEY TEXT` prints the HMAC. `judge NOW HEX` judges a message, `flip NOW HEX` judges it once for
-//! each byte with its lowest bit changed and prints the places where it is good all the same, and `verify NAME HEX` asks the verifier of handlers,
-//! as `flip NAME NOW HEX` does for each byte.
-//! `sign NOW HEX` signs a reply to what was judged last, and `next NOW HEX` the next message of a transfer. `rule TEXT` adds a rule
-//! of updates, and `grants KEY ZONE NAME TYPE` asks the rules. A line that begins with `#` is printed.
+//! `key ALGORITHM:NAME:SECRET [SHORTEST]` adds a key, and `file TEXT` the keys of a text whose line ends are written
+//! `|`; both tell how many there are, or what is wrong. `hmac FUNCTION KEY TEXT` prints the HMAC. `judge NOW HEX`
+//! judges a message, `flip NOW HEX` judges it once for each byte with its lowest bit changed and prints the places
+//! where it is good all the same, and `verify NAME HEX` asks the verifier of handlers, as `flip NAME NOW HEX` does for
+//! each byte. `sign NOW HEX` signs a reply to what was judged last, and `next NOW HEX` the next message of a transfer.
+//! `rule TEXT` adds a rule of updates, and `grants KEY ZONE NAME TYPE` asks the rules. A line that begins with `#` is
+//! printed.
 //!
 //! The status is 0, 3 without memory, 4 where input or output fail, and 5 where a line is none.
 #![tactic(auto)]

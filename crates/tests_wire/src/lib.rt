@@ -1,5 +1,5 @@
-//! Tests of `hickory_wire`, by public calls alone, of what no row of `cases/` can say: lists and boxes as values, what the encoder and
-//! the decoder tell of themselves, and records that no text spells.
+//! Tests of `hickory_wire`, by public calls alone, of what no row of `cases/` can say: lists and boxes as values, what
+//! the encoder and the decoder tell of themselves, and records that no text spells.
 #![tactic(auto)]
 
 #[cfg(test)]

@@ -1,8 +1,10 @@
-//! Serves messages by `server::Server`, and prints what becomes of each: `tests_zones updated|above|incremental` reads lines `TRANSPORT ADDRESS HEX`, with
-//! transport `udp` or `tcp`, and prints `denied`, `response`, `unreadable` or the bytes of each reply; a line that begins with `#` it prints. `updated` serves
-//! a zone that takes every update that is signed, `above` that zone and one below it, `incremental` the first with the differences of its last updates, and
-//! `tests_zones journalled PATH` and `tests_zones incremental PATH` the same with a journal in this file and `PATH-wal`. The status is 0, 2 for wrong
-//! arguments, 3 without memory, 4 where input or output fail, and 5 where a line is none or there is no journal.
+//! Serves messages by `server::Server`, and prints what becomes of each: `tests_zones updated|above|incremental` reads
+//! lines `TRANSPORT ADDRESS HEX`, with transport `udp` or `tcp`, and prints `denied`, `response`, `unreadable` or the
+//! bytes of each reply; a line that begins with `#` it prints. `updated` serves a zone that takes every update that is
+//! signed, `above` that zone and one below it, `incremental` the first with the differences of its last updates, and
+//! `tests_zones journalled PATH` and `tests_zones incremental PATH` the same with a journal in this file and
+//! `PATH-wal`. The status is 0, 2 for wrong arguments, 3 without memory, 4 where input or output fail, and 5 where a
+//! line is none or there is no journal.
 #![tactic(auto)]
 
 mod answers;

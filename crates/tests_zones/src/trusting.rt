@@ -11,7 +11,8 @@ use hickory_server::zone_handler::{ReplySigner, SignError};
 use std::alloc::{AllocError, Global};
 use std::ops::Range;
 
-/// It knows every key, finds every signature good in the first hundred seconds of 1970, and signs each reply by the same four bytes.
+/// It knows every key, finds every signature good in the first hundred seconds of 1970, and signs each reply by the
+/// same four bytes.
 #[derive(Drop)]
 pub struct Trusting;
 

@@ -5,7 +5,7 @@ use Rattle.std.proofs.lemmas.Bool.Decides.{nat_tests}
 use Rattle.text_words.specs.declared.words.TextKind.{TextKind}
 use Rattle.text_words.specs.declared.words.TextKind.TheVariants.{Line, ZoneFile}
 use Rattle.text_words.specs.declared.words.Word.{Word}
-use Rattle.text_words.specs.Words.{WordsLeft, AreWords, AreWordsTo, CrossesLines, EndsAt, HasNoNext, IsByteAt, IsComment, IsEndFrom, IsGap, IsGapEnd, IsNext, IsPiece, IsPlainWord, IsQuotedWord, IsRestOfLine, IsRun, IsRunTo, IsWordFrom, ends_quoted, ends_word, is_blank}
+use Rattle.text_words.specs.Words.{WordsLeft, AreWords, AreWordsTo, CrossesLines, EndsAt, HasNoNext, IsByteAt, IsComment, IsEndFrom, IsGap, IsGapEnd, IsNext, IsPiece, IsPlainWord, IsQuotedWord, IsRestOfLine, IsRun, IsRunTo, IsWordFrom, ends_quoted, ends_word, is_blank, words_left}
 use Rattle.text_words.specs.Words.IsPiece.{blank, line_feed, opened, closed, comment}
 use Rattle.text_words.specs.Words.IsGap.{nothing as no_gap, more as one_gap}
 use Rattle.text_words.specs.Words.IsRun.{nothing as no_run, bare, escaped}
@@ -214,7 +214,7 @@ moved kind text first start word next same is = subst (λ (p : ℕ). IsPlainWord
 
 -- What stands next begins where the gap ends.
 pub next_here : (kind : TextKind) (text : List ℕ) (place depth start start_depth : ℕ) (found : Option Word) (next next_depth : ℕ) → IsGapEnd kind text start start_depth → IsGap kind text place depth start start_depth
-    → IsNext kind text place depth found next next_depth → IsHere kind text start start_depth found next next_depth
+    → IsNext (words_left kind text place depth) found next next_depth → IsHere kind text start start_depth found next next_depth
 next_here kind text place depth start start_depth (Some word) next next_depth stuck gap h =
     let same : (h.first ≡ start) × (next_depth ≡ start_depth) = same_gap kind text (word_stuck kind text h.first next_depth word next h.is) stuck h.gap gap in
     (moved kind text h.first start word next same.0 h.is, same.1)
@@ -258,8 +258,8 @@ same_here kind text start depth None next next_depth (Some b) next' next_depth' 
 same_here kind text start depth None next next_depth None next' next_depth' one two = (one.0 ∙ sym two.0, one.1 ∙ sym two.1, tt)
 
 -- what stands next stands there once
-pub same_next : (kind : TextKind) (text : List ℕ) (place depth : ℕ) (found : Option Word) (next next_depth : ℕ) (found' : Option Word) (next' next_depth' : ℕ) → IsNext kind text place depth found next next_depth
-    → IsNext kind text place depth found' next' next_depth' → (next ≡ next') × (next_depth ≡ next_depth') × SameShape found found'
+pub same_next : (kind : TextKind) (text : List ℕ) (place depth : ℕ) (found : Option Word) (next next_depth : ℕ) (found' : Option Word) (next' next_depth' : ℕ) → IsNext (words_left kind text place depth) found next next_depth
+    → IsNext (words_left kind text place depth) found' next' next_depth' → (next ≡ next') × (next_depth ≡ next_depth') × SameShape found found'
 same_next kind text place depth (Some word) next next_depth found' next' next_depth' one two =
     let stuck : IsGapEnd kind text one.first next_depth = word_stuck kind text one.first next_depth word next one.is in
     same_here kind text one.first next_depth (Some word) next next_depth found' next' next_depth' (next_here kind text place depth one.first next_depth (Some word) next next_depth stuck one.gap one)
@@ -274,19 +274,19 @@ module _ (kind : TextKind) (text : List ℕ) where
   -- no words, or a first one and those behind it
   abbrev pub BeginWith : ℕ → ℕ → List Word → ℕ → ℕ → Type 0
   BeginWith place depth words next next_depth =
-      ((place ≡ next) × (depth ≡ next_depth)) ⊎ ((word : Word) × (middle : ℕ) × (middle_depth : ℕ) × (behind : List Word) × IsWordFrom kind text place depth word middle middle_depth × AreWords kind text middle middle_depth behind next next_depth)
+      ((place ≡ next) × (depth ≡ next_depth)) ⊎ ((word : Word) × (middle : ℕ) × (middle_depth : ℕ) × (behind : List Word) × IsWordFrom (words_left kind text place depth) word middle middle_depth × AreWords (words_left kind text middle middle_depth) behind next next_depth)
 
-  one_behind : {place depth middle middle_depth next next_depth : ℕ} (words : List Word) {word : Word} → BeginWith place depth words middle middle_depth → IsWordFrom kind text middle middle_depth word next next_depth → BeginWith place depth (words ++ word ∷ []) next next_depth
+  one_behind : {place depth middle middle_depth next next_depth : ℕ} (words : List Word) {word : Word} → BeginWith place depth words middle middle_depth → IsWordFrom (words_left kind text middle middle_depth) word next next_depth → BeginWith place depth (words ++ word ∷ []) next next_depth
   one_behind {place} {depth} {middle} {middle_depth} {next} {next_depth} words {word} (inl same) is =
-      inr (word, next, next_depth, [], subst (λ (p : ℕ). IsWordFrom kind text p depth word next next_depth) (sym same.0) (subst (λ (d : ℕ). IsWordFrom kind text middle d word next next_depth) (sym same.1) is), none)
+      inr (word, next, next_depth, [], subst (λ (p : ℕ). IsWordFrom (words_left kind text p depth) word next next_depth) (sym same.0) (subst (λ (d : ℕ). IsWordFrom (words_left kind text middle d) word next next_depth) (sym same.1) is), none)
   one_behind words {word} (inr (w, m, m_depth, behind, first, rest)) is = inr (w, m, m_depth, behind ++ word ∷ [], first, one_word rest is)
 
-  pub first_word : {place depth next next_depth : ℕ} {words : List Word} → AreWords kind text place depth words next next_depth → BeginWith place depth words next next_depth
+  pub first_word : {place depth next next_depth : ℕ} {words : List Word} → AreWords (words_left kind text place depth) words next next_depth → BeginWith place depth words next next_depth
   first_word none = inl (refl, refl)
   first_word (one_word {words = words} before is) = one_behind words (first_word before) is
 
   -- behind the next word stand the words that are left
-  pub behind_word : (place depth next next_depth end : ℕ) (word : Word) (words : List Word) → IsWordFrom kind text place depth word next next_depth → AreWordsTo kind text place depth words end → (behind : List Word) × AreWordsTo kind text next next_depth behind end
+  pub behind_word : (place depth next next_depth end : ℕ) (word : Word) (words : List Word) → IsWordFrom (words_left kind text place depth) word next next_depth → AreWordsTo kind text place depth words end → (behind : List Word) × AreWordsTo kind text next next_depth behind end
   behind_word place depth next next_depth end word words is all = by_first (first_word all.front) where
     by_first : BeginWith place depth words all.next all.next_depth → (behind : List Word) × AreWordsTo kind text next next_depth behind end
     by_first (inl same) =
@@ -298,13 +298,13 @@ module _ (kind : TextKind) (text : List ℕ) where
           record {
             next = all.next;
             next_depth = all.next_depth;
-            front = subst (λ (p : ℕ). AreWords kind text p next_depth behind all.next all.next_depth) (sym same.0) (subst (λ (d : ℕ). AreWords kind text m d behind all.next all.next_depth) (sym same.1) rest);
+            front = subst (λ (p : ℕ). AreWords (words_left kind text p next_depth) behind all.next all.next_depth) (sym same.0) (subst (λ (d : ℕ). AreWords (words_left kind text m d) behind all.next all.next_depth) (sym same.1) rest);
             last = all.last;
           },
         )
 
   -- where neither a word nor an end stands next, no words stand to an end
-  pub no_words : (place depth end : ℕ) (words : List Word) → HasNoNext kind text place depth → AreWordsTo kind text place depth words end → ⊥
+  pub no_words : (place depth end : ℕ) (words : List Word) → HasNoNext (words_left kind text place depth) → AreWordsTo kind text place depth words end → ⊥
   no_words place depth end words no_next all = by_first (first_word all.front) where
     by_first : BeginWith place depth words all.next all.next_depth → ⊥
     by_first (inl same) =
@@ -328,11 +328,11 @@ module _ (kind : TextKind) (text : List ℕ) (place depth : ℕ) (there : WordsL
   gap_end : IsGapEnd kind text there.place there.depth
   gap_end = subst (λ (k : TextKind). IsGapEnd k text there.place there.depth) at.same_kind (subst (λ (t : List ℕ). IsGapEnd there.kind t there.place there.depth) at.same_text at.whole)
 
-  here : (found : Option Word) (next next_depth : ℕ) → IsNext kind text place depth found next next_depth → IsHere kind text there.place there.depth found next next_depth
+  here : (found : Option Word) (next next_depth : ℕ) → IsNext (words_left kind text place depth) found next next_depth → IsHere kind text there.place there.depth found next next_depth
   here found next next_depth h = next_here kind text place depth there.place there.depth found next next_depth gap_end at.gap h
 
   -- a parenthesis that is not closed
-  pub no_next_open : there.place ≡ length there.text → 0 < there.depth → HasNoNext kind text place depth
+  pub no_next_open : there.place ≡ length there.text → 0 < there.depth → HasNoNext (words_left kind text place depth)
   no_next_open at_end unclosed (Some word) next next_depth h = by_word (here (Some word) next next_depth h).0 where
     by_word : IsPlainWord kind text there.place word next ⊎ IsQuotedWord text there.place word next → ⊥
     by_word (inl plain) = omega (arith, plain.within, at_end, ap length at.same_text)
@@ -340,7 +340,7 @@ module _ (kind : TextKind) (text : List ℕ) (place depth : ℕ) (there : WordsL
   no_next_open at_end unclosed None next next_depth h = omega (arith, unclosed, (here None next next_depth h).2)
 
   -- a quote that is not closed
-  pub no_next_quote : there.place < length there.text → get_or there.text there.place 0 ≡ 34 → ((word : Word) (next : ℕ) → IsQuotedWord there.text there.place word next → ⊥) → HasNoNext kind text place depth
+  pub no_next_quote : there.place < length there.text → get_or there.text there.place 0 ≡ 34 → ((word : Word) (next : ℕ) → IsQuotedWord there.text there.place word next → ⊥) → HasNoNext (words_left kind text place depth)
   no_next_quote within quote not_quoted (Some word) next next_depth h = by_word (here (Some word) next next_depth h).0 where
     by_word : IsPlainWord kind text there.place word next ⊎ IsQuotedWord text there.place word next → ⊥
     by_word (inl plain) = no_quote kind (get_or text there.place 0) plain.begins (subst (λ (t : List ℕ). get_or t there.place 0 ≡ 34) at.same_text quote)
@@ -352,7 +352,7 @@ module _ (kind : TextKind) (text : List ℕ) (place depth : ℕ) (there : WordsL
         no_end ZoneFile t p inside is last = omega (arith, last inside, is)
 
   -- a parenthesis that closes none
-  pub no_next_stray : there.place < length there.text → get_or there.text there.place 0 ≢ 34 → ends_word there.kind (get_or there.text there.place 0) ≡ true → (get_or there.text there.place 0 ≡ 10 → CrossesLines there.kind there.depth) → HasNoNext kind text place depth
+  pub no_next_stray : there.place < length there.text → get_or there.text there.place 0 ≢ 34 → ends_word there.kind (get_or there.text there.place 0) ≡ true → (get_or there.text there.place 0 ≡ 10 → CrossesLines there.kind there.depth) → HasNoNext (words_left kind text place depth)
   no_next_stray within no_quote ends crosses (Some word) next next_depth h = by_word (here (Some word) next next_depth h).0 where
     by_word : IsPlainWord kind text there.place word next ⊎ IsQuotedWord text there.place word next → ⊥
     by_word (inl plain) =

@@ -10,8 +10,8 @@ use Rattle.text_words.specs.Spelling.SpellsUnits.{nothing, more}
 use Rattle.text_words.proofs.NoUnits.{digit_first, digits_at_most, first_unit, out_of_digits, unit_at}
 use Rattle.text_words.proofs.SpelledOnce.{InUnits, digits_no_units}
 
--- Numbers with units, and the digits of one behind them, of a whole text of which a rest is left. Whatever the whole spells, the digits and the rest spell what
--- is more than the sum.
+-- Numbers with units, and the digits of one behind them, of a whole text of which a rest is left. Whatever the whole
+-- spells, the digits and the rest spell what is more than the sum.
 pub record UnitsSoFar (whole text rest : List ℕ) (sum : ℕ) (number : Option ℕ) : Type 0 where
   pub front : List ℕ
   pub digits : List ℕ

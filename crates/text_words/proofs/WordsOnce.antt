@@ -2,7 +2,7 @@
 use Rattle.std.proofs.Common.{◌≡◌, ◌∙◌, ℕ, ◌+◌, ◌⊎◌, inl, inr, List, [], ◌∷◌, ◌++◌, Some, None, get_or, sym, ap, subst, refl}
 use Rattle.text_words.specs.declared.words.TextKind.{TextKind}
 use Rattle.text_words.specs.declared.words.Word.{Word}
-use Rattle.text_words.specs.Words.{AreSameWords, AreWords, AreWordsTo, IsEndFrom, IsPlainWord, IsQuotedWord, IsWordFrom, SameWord, cut_of, ends_quoted}
+use Rattle.text_words.specs.Words.{AreSameWords, AreWords, AreWordsTo, IsEndFrom, IsPlainWord, IsQuotedWord, IsWordFrom, SameWord, cut_of, ends_quoted, words_left}
 use Rattle.text_words.specs.Words.AreWords.{none, more}
 use Rattle.text_words.proofs.OneReading.{SameShape, no_quote, same_gap, same_next, same_run, word_stuck}
 
@@ -15,7 +15,7 @@ same_here kind text first a b next (inr one) (inr two) =
     record { bytes = one.bytes ∙ ap (λ (e : ℕ). cut_of text (first + 1) e) same ∙ sym two.bytes; start = one.start ∙ sym two.start; quoted = one.quoted ∙ sym two.quoted }
 
 module _ (kind : TextKind) (text : List ℕ) where
-  same_word : (place depth next next_depth other other_depth : ℕ) (a b : Word) → IsWordFrom kind text place depth a next next_depth → IsWordFrom kind text place depth b other other_depth → SameWord a b
+  same_word : (place depth next next_depth other other_depth : ℕ) (a b : Word) → IsWordFrom (words_left kind text place depth) a next next_depth → IsWordFrom (words_left kind text place depth) b other other_depth → SameWord a b
   same_word place depth next next_depth other other_depth a b one two =
       let at : (one.first ≡ two.first) × (next_depth ≡ other_depth) = same_gap kind text (word_stuck kind text one.first next_depth a next one.is) (word_stuck kind text two.first other_depth b other two.is) one.gap two.gap in
       let end : (next ≡ other) × (next_depth ≡ other_depth) × SameShape (Some a) (Some b) = same_next kind text place depth (Some a) next next_depth (Some b) other other_depth one two in
@@ -24,13 +24,13 @@ module _ (kind : TextKind) (text : List ℕ) where
   -- the same words, from the first on
   data InOrder : ℕ → ℕ → List Word → ℕ → ℕ → Type 0 where
     last : {place depth : ℕ} → InOrder place depth [] place depth
-    first : {place depth middle middle_depth next next_depth : ℕ} {word : Word} {words : List Word} → IsWordFrom kind text place depth word middle middle_depth → InOrder middle middle_depth words next next_depth → InOrder place depth (word ∷ words) next next_depth
+    first : {place depth middle middle_depth next next_depth : ℕ} {word : Word} {words : List Word} → IsWordFrom (words_left kind text place depth) word middle middle_depth → InOrder middle middle_depth words next next_depth → InOrder place depth (word ∷ words) next next_depth
 
-  one_behind : {place depth middle middle_depth next next_depth : ℕ} {words : List Word} {word : Word} → InOrder place depth words middle middle_depth → IsWordFrom kind text middle middle_depth word next next_depth → InOrder place depth (words ++ word ∷ []) next next_depth
+  one_behind : {place depth middle middle_depth next next_depth : ℕ} {words : List Word} {word : Word} → InOrder place depth words middle middle_depth → IsWordFrom (words_left kind text middle middle_depth) word next next_depth → InOrder place depth (words ++ word ∷ []) next next_depth
   one_behind last is = first is last
   one_behind (first one rest) is = first one (one_behind rest is)
 
-  in_order : {place depth next next_depth : ℕ} {words : List Word} → AreWords kind text place depth words next next_depth → InOrder place depth words next next_depth
+  in_order : {place depth next next_depth : ℕ} {words : List Word} → AreWords (words_left kind text place depth) words next next_depth → InOrder place depth words next next_depth
   in_order none = last
   in_order (more before is) = one_behind (in_order before) is
 

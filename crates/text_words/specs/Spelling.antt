@@ -1,4 +1,5 @@
--- What single words of a zone's text spell: bytes, numbers, times, names and character strings (RFC 1035 sections 3.3 and 5.1).
+-- What single words of a zone's text spell: bytes, numbers, times, names and character strings (RFC 1035 sections 3.3
+-- and 5.1).
 use Rattle.std.specs.Prelude.{◌≡◌, ◌≢◌, ℕ, ◌+◌, ◌*◌, ◌^◌, ◌<◌, ◌≤◌, ◌==◌, ◌⊎◌, if◌then◌else◌, Bool, true, false, List, [], ◌∷◌, ◌++◌, length, IsTrue, Option, Some, None}
 use Rattle.std.specs.Char.{to_ascii_lowercase}
 use Rattle.std.specs.Str.Parse.{IsNumeral, digits_value}
@@ -11,8 +12,8 @@ pub record IsNumber (text : List ℕ) (n : ℕ) : Type 0 where
   pub digits : IsNumeral 10 text
   pub value : digits_value 10 text ≡ n
 
--- Text of one byte: a byte that is no backslash, which stands bare for itself; a backslash and three decimal digits for the byte of that number;
--- or a backslash and any byte but a digit for that byte.
+-- Text of one byte: a byte that is no backslash, which stands bare for itself; a backslash and three decimal digits for
+-- the byte of that number; or a backslash and any byte but a digit for that byte.
 pub data SpellsByte : List ℕ → ℕ → Bool → Type 0 where
   bare : {byte : ℕ} → byte ≢ 92 → SpellsByte (byte ∷ []) byte true
   numbered : {hundreds tens ones byte : ℕ} → IsNumber (hundreds ∷ tens ∷ ones ∷ []) byte → byte < 256 → SpellsByte (92 ∷ hundreds ∷ tens ∷ ones ∷ []) byte false
@@ -46,14 +47,15 @@ pub data AreLabelsWithDot : Bool → List ℕ → List (List ℕ) → Type 0 whe
   dot_last : {text : List ℕ} {labels : List (List ℕ)} → SpellsLabels text labels → labels ≢ [] → AreLabelsWithDot true text labels
   no_dot : {text piece : List ℕ} {labels : List (List ℕ)} {label : List ℕ} → SpellsLabels text labels → SpellsLabel piece label → AreLabelsWithDot false (text ++ piece) (labels ++ label ∷ [])
 
--- The labels of a name as a text has them, and whether it is fully qualified: `.` has none and is, `@` has none and is not, others are with a dot behind the
--- last label.
+-- The labels of a name as a text has them, and whether it is fully qualified: `.` has none and is, `@` has none and is
+-- not, others are with a dot behind the last label.
 pub data AreNameLabels : Bool → List ℕ → List (List ℕ) → Type 0 where
   root : AreNameLabels true (46 ∷ []) []
   origin : AreNameLabels false (64 ∷ []) []
   labels : {is_fqdn : Bool} {text : List ℕ} {labels : List (List ℕ)} → text ≢ 46 ∷ [] → text ≢ 64 ∷ [] → AreLabelsWithDot is_fqdn text labels → AreNameLabels is_fqdn text labels
 
--- The text of a name, and its labels: where it is not fully qualified, those of the origin stand behind its own (RFC 1035 section 5.1).
+-- The text of a name, and its labels: where it is not fully qualified, those of the origin stand behind its own (RFC
+-- 1035 section 5.1).
 pub data SpellsName (origin : Option DomainName) : List ℕ → List (List ℕ) → Type 0 where
   absolute : {text : List ℕ} {labels : List (List ℕ)} → AreNameLabels true text labels → SpellsName origin text labels
   relative : {text : List ℕ} {labels : List (List ℕ)} {o : DomainName} → origin ≡ Some o → AreNameLabels false text labels → SpellsName origin text (labels ++ o.labels)
@@ -112,14 +114,16 @@ IsNoTime word = (n : ℕ) → word.quoted ≡ false → SpellsTime word.bytes.no
 abbrev pub HasNoLabel : List ℕ → Type 0
 HasNoLabel text = (piece label : List ℕ) → SpellsLabel piece label → (text ≡ piece) ⊎ ((behind : List ℕ) × (text ≡ piece ++ 46 ∷ behind)) → ⊥
 
--- No labels of a name stand in a text that have at most 255 bytes in wire form, the end byte counted (RFC 1035 section 2.3.4).
+-- No labels of a name stand in a text that have at most 255 bytes in wire form, the end byte counted (RFC 1035 section
+-- 2.3.4).
 abbrev pub HasNoLabels : List ℕ → Type 0
 HasNoLabels text = (dot : Bool) (labels : List (List ℕ)) → AreLabelsWithDot dot text labels → name_len labels ≤ 255 → ⊥
 
 abbrev pub HasNoNameLabels : Word → Type 0
 HasNoNameLabels word = (is_fqdn : Bool) (labels : List (List ℕ)) → word.quoted ≡ false → AreNameLabels is_fqdn word.bytes.now labels → name_len labels ≤ 255 → ⊥
 
--- A word is no name with an origin: it stands in quotes, or spells none, or one of more than 255 bytes in wire form, or one that is relative with no origin.
+-- A word is no name with an origin: it stands in quotes, or spells none, or one of more than 255 bytes in wire form, or
+-- one that is relative with no origin.
 abbrev pub IsNoName : Option DomainName → Word → Type 0
 IsNoName o word = (labels : List (List ℕ)) → word.quoted ≡ false → SpellsName o word.bytes.now labels → name_len labels ≤ 255 → ⊥
 

@@ -1,4 +1,5 @@
--- The words of a text: of one line, or of an entry of a zone file (RFC 1035 section 5.1). Places count the bytes before them.
+-- The words of a text: of one line, or of an entry of a zone file (RFC 1035 section 5.1). Places count the bytes before
+-- them.
 use Rattle.std.specs.Prelude.{◌≡◌, ◌≢◌, ℕ, ◌+◌, ◌-◌, ◌<◌, ◌≤◌, ◌==◌, ◌⊎◌, Bool, true, false, min, if◌then◌else◌, List, [], ◌∷◌, ◌++◌, length, get_or, take, drop, Option, Some, None}
 use Rattle.text_words.specs.declared.words.TextKind.{TextKind}
 use Rattle.text_words.specs.declared.words.TextKind.TheVariants.{Line, ZoneFile}
@@ -11,11 +12,16 @@ pub record WordsLeft : Type 0 where
   pub kind : TextKind
   pub depth : ℕ
 
+-- what is left of a text from a place on, within so many parentheses
+abbrev pub words_left : TextKind → List ℕ → ℕ → ℕ → WordsLeft
+words_left kind text place depth = record { text = text; place = place; kind = kind; depth = depth }
+
 -- a blank: a space, a tab, or a byte that ends lines
 abbrev pub is_blank : ℕ → Bool
 is_blank byte = if byte == 32 then true else if byte == 9 then true else if byte == 13 then true else byte == 10
 
--- A word in no quotes ends before a blank, before a comment, before a quote, which begins the next word, and in a zone file before a parenthesis.
+-- A word in no quotes ends before a blank, before a comment, before a quote, which begins the next word, and in a zone
+-- file before a parenthesis.
 abbrev pub ends_word : TextKind → ℕ → Bool
 ends_word Line byte = if is_blank byte then true else if byte == 59 then true else byte == 34
 ends_word ZoneFile byte = if is_blank byte then true else if byte == 59 then true else if byte == 34 then true else if byte == 40 then true else byte == 41
@@ -46,8 +52,8 @@ abbrev pub CrossesLines : TextKind → ℕ → Type 0
 CrossesLines Line depth = Unit {0}
 CrossesLines ZoneFile depth = 0 < depth
 
--- A piece of what stands between words, from a place within so many parentheses to the place behind it: a blank, a line feed that ends no entry, a parenthesis
--- of a zone file, or a comment.
+-- A piece of what stands between words, from a place within so many parentheses to the place behind it: a blank, a line
+-- feed that ends no entry, a parenthesis of a zone file, or a comment.
 pub data IsPiece (kind : TextKind) (text : List ℕ) (place depth : ℕ) : ℕ → ℕ → Type 0 where
   blank : {byte : ℕ} → IsByteAt text place byte → is_blank byte ≡ true → byte ≢ 10 → IsPiece kind text place depth (place + 1) depth
   line_feed : IsByteAt text place 10 → CrossesLines kind depth → IsPiece kind text place depth (place + 1) depth
@@ -64,7 +70,8 @@ pub data IsGap (kind : TextKind) (text : List ℕ) (place depth : ℕ) : ℕ →
 abbrev pub IsGapEnd : TextKind → List ℕ → ℕ → ℕ → Type 0
 IsGapEnd kind text place depth = (next next_depth : ℕ) → IsPiece kind text place depth next next_depth → ⊥
 
--- Bytes one behind the other, none of which ends them: each stands bare, or a backslash stands before it. A backslash may be the last byte of the text.
+-- Bytes one behind the other, none of which ends them: each stands bare, or a backslash stands before it. A backslash
+-- may be the last byte of the text.
 pub data IsRun (ends : ℕ → Bool) (text : List ℕ) (start : ℕ) : ℕ → Type 0 where
   nothing : IsRun ends text start start
   bare : {place byte : ℕ} → IsRun ends text start place → IsByteAt text place byte → byte ≢ 92 → ends byte ≡ false → IsRun ends text start (place + 1)
@@ -99,11 +106,11 @@ pub record IsQuotedWord (text : List ℕ) (place : ℕ) (word : Word) (next : �
   pub start : word.start ≡ place + 1
   pub bytes : word.bytes.now ≡ cut_of text (place + 1) end
 
--- From a place within so many parentheses on, the next word, and the place behind it, within so many.
-pub record IsWordFrom (kind : TextKind) (text : List ℕ) (place depth : ℕ) (word : Word) (next next_depth : ℕ) : Type 0 where
+-- The next word of what is left, and the place behind it, within so many parentheses.
+pub record IsWordFrom (left : WordsLeft) (word : Word) (next next_depth : ℕ) : Type 0 where
   pub first : ℕ
-  pub gap : IsGap kind text place depth first next_depth
-  pub is : IsPlainWord kind text first word next ⊎ IsQuotedWord text first word next
+  pub gap : IsGap left.kind left.text left.place left.depth first next_depth
+  pub is : IsPlainWord left.kind left.text first word next ⊎ IsQuotedWord left.text first word next
 
 -- An entry ends at a line feed, or where the text ends, as a line does.
 abbrev pub EndsAt : TextKind → List ℕ → ℕ → Type 0
@@ -117,31 +124,31 @@ pub record IsEndFrom (kind : TextKind) (text : List ℕ) (place depth end : ℕ)
   pub last : EndsAt kind text end
 
 -- the next word, or the end where none is left
-abbrev pub IsNext : TextKind → List ℕ → ℕ → ℕ → Option Word → ℕ → ℕ → Type 0
-IsNext kind text place depth (Some word) next next_depth = IsWordFrom kind text place depth word next next_depth
-IsNext kind text place depth None next next_depth = IsEndFrom kind text place depth next × (next_depth ≡ 0)
+abbrev pub IsNext : WordsLeft → Option Word → ℕ → ℕ → Type 0
+IsNext left (Some word) next next_depth = IsWordFrom left word next next_depth
+IsNext left None next next_depth = IsEndFrom left.kind left.text left.place left.depth next × (next_depth ≡ 0)
 
 -- Neither a word nor an end stands next.
-abbrev pub HasNoNext : TextKind → List ℕ → ℕ → ℕ → Type 0
-HasNoNext kind text place depth = (found : Option Word) (next next_depth : ℕ) → IsNext kind text place depth found next next_depth → ⊥
+abbrev pub HasNoNext : WordsLeft → Type 0
+HasNoNext left = (found : Option Word) (next next_depth : ℕ) → IsNext left found next next_depth → ⊥
 
 -- No word stands next, and no end does.
-abbrev pub HasNoWord : TextKind → List ℕ → ℕ → ℕ → Type 0
-HasNoWord kind text place depth = (word : Word) (next next_depth : ℕ) → IsWordFrom kind text place depth word next next_depth → ⊥
+abbrev pub HasNoWord : WordsLeft → Type 0
+HasNoWord left = (word : Word) (next next_depth : ℕ) → IsWordFrom left word next next_depth → ⊥
 
 abbrev pub HasNoEnd : TextKind → List ℕ → ℕ → ℕ → Type 0
 HasNoEnd kind text place depth = (end : ℕ) → IsEndFrom kind text place depth end → ⊥
 
--- words one behind the other, from a place to a place
-pub data AreWords (kind : TextKind) (text : List ℕ) (place depth : ℕ) : List Word → ℕ → ℕ → Type 0 where
-  none : AreWords kind text place depth [] place depth
-  more : {words : List Word} {middle middle_depth next next_depth : ℕ} {word : Word} → AreWords kind text place depth words middle middle_depth → IsWordFrom kind text middle middle_depth word next next_depth → AreWords kind text place depth (words ++ word ∷ []) next next_depth
+-- words one behind the other, the first of what is left, up to a place within so many parentheses
+pub data AreWords (left : WordsLeft) : List Word → ℕ → ℕ → Type 0 where
+  none : AreWords left [] left.place left.depth
+  more : {words : List Word} {middle middle_depth next next_depth : ℕ} {word : Word} → AreWords left words middle middle_depth → IsWordFrom (record left { place = middle; depth = middle_depth }) word next next_depth → AreWords left (words ++ word ∷ []) next next_depth
 
 -- All words from a place within so many parentheses to the end of the line or the entry.
 pub record AreWordsTo (kind : TextKind) (text : List ℕ) (place depth : ℕ) (words : List Word) (end : ℕ) : Type 0 where
   pub next : ℕ
   pub next_depth : ℕ
-  pub front : AreWords kind text place depth words next next_depth
+  pub front : AreWords (words_left kind text place depth) words next next_depth
   pub last : IsEndFrom kind text next next_depth end
 
 -- From a place on, no words stand to an end: a quote or a parenthesis is not closed, or a parenthesis closes none.

@@ -63,10 +63,12 @@ pub enum TextFault {
     /// The field is no hexadecimal digits, two for each byte.
     #[error("not hexadecimal digits")]
     BadHex,
-    /// The field is not a hash in base 32: digits and letters up to V, in a last group of 2, 4, 5, 7 or 8 (RFC 5155 section 3.3, RFC 4648 section 7).
+    /// The field is not a hash in base 32: digits and letters up to V, in a last group of 2, 4, 5, 7 or 8 (RFC 5155
+    /// section 3.3, RFC 4648 section 7).
     #[error("not base 32")]
     BadBase32,
-    /// The field is neither a date with a time of day, of fourteen digits, nor a number of seconds (RFC 4034 section 3.2).
+    /// The field is neither a date with a time of day, of fourteen digits, nor a number of seconds (RFC 4034 section
+    /// 3.2).
     #[error("not a date")]
     BadDate,
     /// The fields are not the encoding of bytes in base 64 (RFC 4648 section 4).

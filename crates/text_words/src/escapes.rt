@@ -38,7 +38,8 @@ fn byte_of(hundreds: u8, tens: u8, ones: u8) -> Option<u8>
 /// The byte that is spelled by a backslash and what stands behind it.
 fn escaped_byte(behind: &[u8]) -> Option<SpelledByte>
     ensures within { IfSome result (λ spelled. spelled.len ≤ 1 + length behind.now) }
-    ensures spelled { IfSome result (λ spelled. SpellsByte (take spelled.len (92 ∷ behind.now)) spelled.byte spelled.is_bare) }
+    ensures spelled { IfSome result
+        (λ spelled. SpellsByte (take spelled.len (92 ∷ behind.now)) spelled.byte spelled.is_bare) }
     ensures escaped { IfSome result (λ spelled. spelled.is_bare ≡ false) }
     ensures none { IfNone result (HasNoFirstByte (92 ∷ behind.now)) }
 {

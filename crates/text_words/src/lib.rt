@@ -1,4 +1,5 @@
-//! The words of a zone's text (RFC 1035 section 5.1), and what single words spell: bytes, numbers, times, names and character strings.
+//! The words of a zone's text (RFC 1035 section 5.1), and what single words spell: bytes, numbers, times, names and
+//! character strings.
 //!
 //! A text is a line, or the entry of a zone file. A fault is told by its place in the text.
 #![tactic(auto)]

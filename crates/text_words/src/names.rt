@@ -20,8 +20,8 @@ const MAX_LABEL_LEN: usize = 63;
 /// The most bytes that the labels of a name have in wire form, without its end byte (RFC 1035 section 2.3.4).
 const MAX_LABELS_LEN: usize = 254;
 
-/// Spells out the label that a text begins with, up to a dot or the end, and tells its length and how many bytes of the text spell it. Before the
-/// text stand so many bytes of the word.
+/// Spells out the label that a text begins with, up to a dot or the end, and tells its length and how many bytes of the
+/// text spell it. Before the text stand so many bytes of the word.
 fn read_label(
     word: &Word<'_>,
     before: usize,
@@ -132,8 +132,8 @@ fn append_labels(word: &Word<'_>, labels: &mut Labels, name: &Name) -> Result<()
     Ok(())
 }
 
-/// The name that a field stands for, fully qualified: one without a dot at its end is relative to the origin (RFC 1035 section 5.1), and
-/// without an origin a fault.
+/// The name that a field stands for, fully qualified: one without a dot at its end is relative to the origin (RFC 1035
+/// section 5.1), and without an origin a fault.
 pub fn absolute_name(
     alloc: Global,
     word: &Word<'_>,
@@ -169,11 +169,12 @@ pub fn next_name(
     absolute_name(alloc, &word, origin)
 }
 
-/// Reads a name (RFC 1035 section 5.1): labels with dots between them, fully qualified where a dot stands last, as `www.example.com.`;
-/// `.` is the root, and `@` the name of no labels that is not fully qualified.
+/// Reads a name (RFC 1035 section 5.1): labels with dots between them, fully qualified where a dot stands last, as
+/// `www.example.com.`; `.` is the root, and `@` the name of no labels that is not fully qualified.
 ///
-/// A label is any bytes but blanks, `.`, `"`, `(`, `)`, `;` and `\`. A backslash and three decimal digits are the byte of that number,
-/// and a backslash and any other byte are that byte. Blanks may stand around the name, and a comment behind it.
+/// A label is any bytes but blanks, `.`, `"`, `(`, `)`, `;` and `\`. A backslash and three decimal digits are the byte
+/// of that number, and a backslash and any other byte are that byte. Blanks may stand around the name, and a comment
+/// behind it.
 pub fn read_name(alloc: Global, text: &str) -> Result<Name, TextError> {
     let mut words = Words::new(text);
     let word = words.field()?;

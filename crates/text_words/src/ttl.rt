@@ -77,7 +77,8 @@ fn units(word: &Word<'_>) -> Result<u64, TextError>
     }
 }
 
-/// The seconds of a field of a zone file: a number of them, or numbers with a unit behind each, as `90`, `1h30m` or `2W`.
+/// The seconds of a field of a zone file: a number of them, or numbers with a unit behind each, as `90`, `1h30m` or
+/// `2W`.
 pub fn seconds_of(word: &Word<'_>) -> Result<u32, TextError>
     ensures time { IfOk result (λ n. (word.now.quoted ≡ false) × SpellsTime word.now.bytes.now n × (n < 2 ^ 32)) }
     ensures refused { OnErr result (IsNoTime word.now) }

@@ -3,7 +3,8 @@
 ghost use Rattle.text_words.specs.Spelling.{BytesSpelledOnce, NamesSpelledOnce, StringsSpelledOnce, TimesSpelledOnce};
 ghost use Rattle.text_words.specs.Words.{StandOnce};
 
-/// From a place of a text on, the words to the end of the line or the entry stand in one way: no others stand there, nor to another end.
+/// From a place of a text on, the words to the end of the line or the entry stand in one way: no others stand there,
+/// nor to another end.
 pub fn words_stand_once()
     ensures { StandOnce }
 {}

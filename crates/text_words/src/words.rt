@@ -249,7 +249,8 @@ fn ends_entry(kind: TextKind, depth: usize) -> bool
     }
 }
 
-/// A piece of what stands between fields: the place behind it, and how many parentheses are open there, where so many are before it.
+/// A piece of what stands between fields: the place behind it, and how many parentheses are open there, where so many
+/// are before it.
 fn piece(kind: TextKind, text: &[u8], place: usize, depth: usize) -> Option<(usize, usize)>
     requires within { place < length text.now }
     requires counted { depth ≤ place }
@@ -357,8 +358,9 @@ fn quoted_word<'a>(text: &'a [u8], start: usize) -> Result<(Word<'a>, usize), Te
     Ok((word, end + 1))
 }
 
-/// Where the field ends of which the byte stands at this place of a zone file: a parenthesis is a field of one byte, a quote that does not end has what
-/// stands behind it up to a blank, and at a blank or the end of the text there is none.
+/// Where the field ends of which the byte stands at this place of a zone file: a parenthesis is a field of one byte, a
+/// quote that does not end has what stands behind it up to a blank, and at a blank or the end of the text there is
+/// none.
 pub fn field_end(text: &[u8], place: usize) -> usize
     requires { place ≤ length text.now }
     ensures on { place ≤ result }
@@ -443,9 +445,10 @@ impl<'a> Words<'a> {
         ensures text { self.new.text ≡ self.old.text }
         ensures kind { self.new.kind ≡ self.old.kind }
         ensures on { self.old.place ≤ self.new.place }
-        ensures next { IfOk result (λ found. IsNext self.old.kind self.old.text self.old.place self.old.depth found self.new.place self.new.depth) }
-        ensures nearer { IfOk result (λ found. IfSome found (λ _. length self.new.text - self.new.place < length self.old.text - self.old.place)) }
-        ensures none { OnErr result (HasNoNext self.old.kind self.old.text self.old.place self.old.depth) }
+        ensures next { IfOk result (λ found. IsNext self.old found self.new.place self.new.depth) }
+        ensures nearer { IfOk result (λ found.
+            IfSome found (λ _. length self.new.text - self.new.place < length self.old.text - self.old.place)) }
+        ensures none { OnErr result (HasNoNext self.old) }
     {
         self.skip();
         let start = self.place;
@@ -477,8 +480,10 @@ impl<'a> Words<'a> {
         ensures text { self.new.text ≡ self.old.text }
         ensures kind { self.new.kind ≡ self.old.kind }
         ensures on { self.old.place ≤ self.new.place }
-        ensures words { IfOk result (λ words. AreWordsTo self.old.kind self.old.text self.old.place self.old.depth words.items self.new.place) }
-        ensures none { IfErr result (λ e. e ≢ Memory → HasNoWords self.old.kind self.old.text self.old.place self.old.depth) }
+        ensures words { IfOk result (λ words.
+            AreWordsTo self.old.kind self.old.text self.old.place self.old.depth words.items self.new.place) }
+        ensures none { IfErr result (λ e. e ≢ Memory →
+            HasNoWords self.old.kind self.old.text self.old.place self.old.depth) }
     {
         let mut fields = Vec::new(alloc);
         'fields: while let Some(word) = self.next()? {
@@ -499,8 +504,8 @@ impl<'a> Words<'a> {
     pub fn field(&mut self) -> Result<Word<'a>, TextError>
         ensures text { self.new.text ≡ self.old.text }
         ensures kind { self.new.kind ≡ self.old.kind }
-        ensures word { IfOk result (λ word. IsWordFrom self.old.kind self.old.text self.old.place self.old.depth word self.new.place self.new.depth) }
-        ensures none { OnErr result (HasNoWord self.old.kind self.old.text self.old.place self.old.depth) }
+        ensures word { IfOk result (λ word. IsWordFrom self.old word self.new.place self.new.depth) }
+        ensures none { OnErr result (HasNoWord self.old) }
     {
         match self.next()? {
             Some(word) => Ok(word),

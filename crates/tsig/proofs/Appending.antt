@@ -1,4 +1,5 @@
--- A TSIG record that is put behind a whole message, and counted, stands last in it; and without it the message is what it was.
+-- A TSIG record that is put behind a whole message, and counted, stands last in it; and without it the message is what
+-- it was.
 use Rattle.std.proofs.Common.{◌≡◌, ℕ, zero, suc, ◌+◌, ◌-◌, ◌^◌, ◌<◌, ◌≤◌, List, [], ◌∷◌, ◌++◌, length, length-append, get_or, take, drop, refl, sym, ap, subst, ◌∙◌, arith, append_assoc, lit≤}
 use Rattle.std.specs.Int.{w16, from_be_bytes, to_be_bytes}
 use Rattle.std.proofs.Math.Seq.{take-append_seam}

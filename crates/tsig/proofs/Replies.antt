@@ -1,4 +1,5 @@
--- Replies to requests with a right MAC verify, and so do the further messages of a transfer; and a request that a client signs is judged good.
+-- Replies to requests with a right MAC verify, and so do the further messages of a transfer; and a request that a
+-- client signs is judged good.
 use Rattle.std.proofs.Common.{◌≡◌, ℕ, ◌+◌, ◌/◌, ◌%◌, ◌^◌, ◌<◌, ◌≤◌, Bool, true, false, cond, ◌&&◌, List, [], ◌∷◌, ◌++◌, length, length-append, Option, Some, refl, sym, ap, subst, ◌∙◌, arith, bytes_eq, leb, eq-eqb, lit<, lit≤}
 use Rattle.std.specs.Int.{w16, w32, from_be_bytes, to_be_bytes}
 use Rattle.std.specs.Prelude.{All}

@@ -1,4 +1,5 @@
--- How replies are signed by what a handler told of the request's signature (RFC 8945 section 5.3), over bytes that the reply may be written as.
+-- How replies are signed by what a handler told of the request's signature (RFC 8945 section 5.3), over bytes that the
+-- reply may be written as.
 use Rattle.std.specs.Prelude.{ℕ, List, [], Option, Some, None}
 use Rattle.wire_messages.specs.declared.rr.record.Record.{Record}
 use Rattle.wire_messages.specs.declared.rr.tsig.TSIG.{TSIG}
@@ -37,8 +38,8 @@ abbrev pub signed_record : Key → TSigResponseContext → List ℕ → List ℕ
 signed_record key context mac bytes t =
     record_of context.key_name (with_mac t (mac_of key.algorithm key.secret (reply_digest mac key.name (algorithm_name key.algorithm) t bytes)))
 
--- By how the request was judged. A context does not tell the request's algorithm, time and fudge: where the key is not known the record names
--- hmac-sha256, and a BADTIME reply has the time of the server.
+-- By how the request was judged. A context does not tell the request's algorithm, time and fudge: where the key is not
+-- known the record names hmac-sha256, and a BADTIME reply has the time of the server.
 abbrev pub signature_by : Option Key → TSigResponseContext → List ℕ → TSigResponseKind → Option (Record TSIG)
 signature_by key context bytes UnknownKey = Some (unsigned_error HmacSha256 context 17)
 signature_by None context bytes kind = None

@@ -14,8 +14,8 @@ canonical name = name_octets (lower_labels name.labels)
 abbrev pub octets_48 : ℕ → List ℕ
 octets_48 n = drop 2 (to_be_bytes w64 n)
 
--- The TSIG variables (section 4.3.3): the name of the key, the class ANY, 255, and the TTL 0 of the record; the name of the algorithm, the
--- time, the fudge, the error, and the other data behind their length.
+-- The TSIG variables (section 4.3.3): the name of the key, the class ANY, 255, and the TTL 0 of the record; the name of
+-- the algorithm, the time, the fudge, the error, and the other data behind their length.
 abbrev pub variables : DomainName → DomainName → TSIG → List ℕ
 variables key algorithm t =
     canonical key ++ to_be_bytes w16 255 ++ to_be_bytes w32 0
@@ -26,8 +26,8 @@ variables key algorithm t =
 abbrev pub timers : TSIG → List ℕ
 timers t = octets_48 t.time ++ to_be_bytes w16 t.fudge
 
--- The message as it was before it was signed (section 4.3.2): with its original id, one record less, and without the last record, which
--- begins at this place.
+-- The message as it was before it was signed (section 4.3.2): with its original id, one record less, and without the
+-- last record, which begins at this place.
 abbrev pub unsigned_message : List ℕ → ℕ → ℕ → ℕ → List ℕ
 unsigned_message bytes original additionals place =
     to_be_bytes w16 original ++ slice_range bytes 2 10 ++ to_be_bytes w16 (additionals - 1) ++ slice_range bytes 12 place
@@ -44,6 +44,7 @@ request_digest key algorithm t message = message ++ variables key algorithm t
 abbrev pub reply_digest : List ℕ → DomainName → DomainName → TSIG → List ℕ → List ℕ
 reply_digest mac key algorithm t message = prior_mac mac ++ message ++ variables key algorithm t
 
--- what each further message of a transfer is signed over: the MAC of the message before, the message, and the timers (section 5.3.1)
+-- what each further message of a transfer is signed over: the MAC of the message before, the message, and the timers
+-- (section 5.3.1)
 abbrev pub next_digest : List ℕ → TSIG → List ℕ → List ℕ
 next_digest mac t message = prior_mac mac ++ message ++ timers t

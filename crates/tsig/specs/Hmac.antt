@@ -1,4 +1,5 @@
--- The algorithms of transaction signatures (RFC 8945 section 6), and HMAC (RFC 2104) with the hash functions of FIPS 180-4.
+-- The algorithms of transaction signatures (RFC 8945 section 6), and HMAC (RFC 2104) with the hash functions of FIPS
+-- 180-4.
 use Rattle.std.specs.Prelude.{ℕ, ◌-◌, ◌/◌, max, true, [], List, ◌++◌, length, map, replicate, take, codes, ◌∷◌, bit_xor, nat_lt, if◌then◌else◌}
 use Rattle.sha2.specs.Sha256.{sha256}
 use Rattle.sha2.specs.Sha512.{sha384, sha512}
@@ -37,7 +38,8 @@ hash_function HmacSha384_192 = Sha384
 hash_function HmacSha512 = Sha512
 hash_function HmacSha512_256 = Sha512
 
--- how many bytes a whole MAC of the algorithm has: those of the hash, or the first half of them (RFC 8945 section 6, RFC 4868 section 2.3)
+-- how many bytes a whole MAC of the algorithm has: those of the hash, or the first half of them (RFC 8945 section 6,
+-- RFC 4868 section 2.3)
 abbrev pub mac_len : Algorithm → ℕ
 mac_len HmacSha256 = 32
 mac_len HmacSha256_128 = 16
@@ -46,7 +48,8 @@ mac_len HmacSha384_192 = 24
 mac_len HmacSha512 = 64
 mac_len HmacSha512_256 = 32
 
--- The least length of a MAC that was truncated: ten bytes, and half of what the hash function gives (RFC 8945 section 5.2.2.1).
+-- The least length of a MAC that was truncated: ten bytes, and half of what the hash function gives (RFC 8945 section
+-- 5.2.2.1).
 abbrev pub least_len : Algorithm → ℕ
 least_len a = max 10 (hash_len (hash_function a) / 2)
 

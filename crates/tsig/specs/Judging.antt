@@ -1,5 +1,6 @@
 -- How a message is judged by the signature that it carries (RFC 8945 section 5.2).
 use Rattle.std.specs.Prelude.{◌≡◌, ℕ, ◌+◌, Bool, false, IsTrue, ◌&&◌, nat_eq, nat_le, nat_lt, List, length, take, bytes_eq, Some}
+use Rattle.wire_messages.specs.Numbers.{class_any}
 use Rattle.wire_names.specs.rr.domain.DomainName.{DomainName}
 use Rattle.wire_names.specs.rr.domain.NameOrder.{name_eq}
 use Rattle.wire_messages.specs.declared.rr.record.Record.{Record}
@@ -18,7 +19,7 @@ use Rattle.tsig.specs.declared.keys.Key.{Key}
 
 -- The record has the class ANY, 255, and the TTL 0 (section 4.2).
 abbrev pub has_fixed_fields : Record TSIG → Bool
-has_fixed_fields s = nat_eq s.dns_class 255 && nat_eq s.ttl 0
+has_fixed_fields s = nat_eq s.dns_class class_any && nat_eq s.ttl 0
 
 -- the algorithm's name, letter case aside
 abbrev pub is_named : Algorithm → DomainName → Bool
@@ -49,18 +50,18 @@ pub record HasKey (keys : List Key) (s : Record TSIG) (key : Key) : Type 0 where
   pub found : key_of keys s.name ≡ Some key
   pub algorithm : IsTrue (is_named key.algorithm s.rdata.algorithm)
 
--- The same, with a MAC of a length that there is (section 5.2.2.1).
+-- The record names a key, and has a MAC of a length that there is (section 5.2.2.1).
 pub record HasMac (keys : List Key) (s : Record TSIG) (key : Key) : Type 0 where
   pub known : HasKey keys s key
   pub len : IsTrue (is_mac_len key.algorithm (length s.rdata.mac))
 
--- The same, and it is the MAC of what the request is signed over (section 5.2.2).
+-- The record names a key, and its MAC is that of what the request is signed over (section 5.2.2).
 pub record IsAuthentic (keys : List Key) (bytes : List ℕ) (additionals place : ℕ) (s : Record TSIG) (key : Key) : Type 0 where
   pub has : HasMac keys s key
   pub mac : IsTrue (is_mac_of key (signed_text key bytes additionals place s) s.rdata.mac)
 
--- The judgement by the TSIG record, in the order of section 5.2: its form, the key, the MAC's length and the MAC, the time, and last the
--- length that local policy demands (section 5.2.4).
+-- The judgement by the TSIG record, in the order of section 5.2: its form, the key, the MAC's length and the MAC, the
+-- time, and last the length that local policy demands (section 5.2.4).
 pub data JudgedBy (keys : List Key) (bytes : List ℕ) (now additionals place : ℕ) (s : Record TSIG) : Judgement → Type 0 where
   ill_formed : has_fixed_fields s ≡ false → JudgedBy keys bytes now additionals place s FormErr
   bad_key : IsTrue (has_fixed_fields s) → ((key : Key) → HasKey keys s key → ⊥) → JudgedBy keys bytes now additionals place s (Signed s BadKey)
@@ -70,9 +71,9 @@ pub data JudgedBy (keys : List Key) (bytes : List ℕ) (now additionals place : 
   bad_trunc : (key : Key) → IsAuthentic keys bytes additionals place s key → IsTrue (is_in_time s.rdata now) → IsTrue (nat_lt (length s.rdata.mac) key.shortest) → JudgedBy keys bytes now additionals place s (Signed s BadTrunc)
   good : (key : Key) → IsAuthentic keys bytes additionals place s key → IsTrue (is_in_time s.rdata now) → nat_lt (length s.rdata.mac) key.shortest ≡ false → JudgedBy keys bytes now additionals place s (Signed s Good)
 
--- The judgement of bytes at a moment, in seconds since 1970. They are a message without a TSIG record; or one whose last record is its only
--- TSIG, and that is judged; or neither, which is a format error: a TSIG stands elsewhere, or there are two, or a record cannot be read
--- (section 5.2).
+-- The judgement of bytes at a moment, in seconds since 1970. They are a message without a TSIG record; or one whose
+-- last record is its only TSIG, and that is judged; or neither, which is a format error: a TSIG stands elsewhere, or
+-- there are two, or a record cannot be read (section 5.2).
 pub data Judged (keys : List Key) (bytes : List ℕ) (now : ℕ) : Judgement → Type 0 where
   unsigned : (stop : ℕ) → UnsignedAt bytes stop → Judged keys bytes now Unsigned
   signed : (additionals place stop : ℕ) (s : Record TSIG) (judgement : Judgement) → SignedAt bytes additionals place s stop

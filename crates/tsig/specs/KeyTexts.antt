@@ -7,7 +7,8 @@ use Rattle.wire_names.specs.rr.domain.NameText.{IsNameText}
 use Rattle.tsig.specs.Hmac.{algorithm_label}
 use Rattle.tsig.specs.declared.keys.Key.{Key}
 
--- The text is a key as `dig -y` takes it, `ALGORITHM:NAME:SECRET`. The name is fully qualified whether or not it ends in a dot.
+-- The text is a key as `dig -y` takes it, `ALGORITHM:NAME:SECRET`. The name is fully qualified whether or not it ends
+-- in a dot.
 pub record IsKeyText (text : List ℕ) (key : Key) : Type 0 where
   pub name : List ℕ
   pub secret : List ℕ

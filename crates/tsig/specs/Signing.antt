@@ -1,6 +1,7 @@
 -- How a reply is signed (RFC 8945 sections 5.2 and 5.3), over the bytes that leave.
 use Rattle.std.specs.Prelude.{◌≡◌, ◌≢◌, ◌<◌, ◌≤◌, ℕ, ◌+◌, ◌-◌, ◌^◌, min, Bool, true, false, List, [], ◌++◌, drop, take, slice_range, length, Option, Some, None, Result, Ok, Err}
 use Rattle.std.specs.Int.{w16, from_be_bytes, to_be_bytes}
+use Rattle.wire_messages.specs.Numbers.{class_any}
 use Rattle.wire_names.specs.rr.domain.DomainName.{DomainName, name_len}
 use Rattle.wire_messages.specs.serialize.layout.MessageLayout.{tsig_record}
 use Rattle.wire_messages.specs.serialize.writing.FullForm.{record_octets}
@@ -50,15 +51,16 @@ error_of BadTrunc = 22
 abbrev pub time_of : ℕ → ℕ
 time_of now = min now (2 ^ 48 - 1)
 
--- What the TSIG record of a reply says, but for the MAC: the algorithm as the request names it, the time of the server, a fudge of 300 seconds,
--- the reply's id. For BADTIME it is the time and the fudge of the request, and the time of the server stands in the other data (section 5.2.3).
+-- What the TSIG record of a reply says, but for the MAC: the algorithm as the request names it, the time of the server,
+-- a fudge of 300 seconds, the reply's id. For BADTIME it is the time and the fudge of the request, and the time of the
+-- server stands in the other data (section 5.2.3).
 abbrev pub reply_data : TSIG → Verdict → ℕ → ℕ → TSIG
 reply_data t BadTime now id = record { algorithm = t.algorithm; time = time_of t.time; fudge = t.fudge; mac = []; oid = id; error = error_of BadTime; other = octets_48 (time_of now) }
 reply_data t verdict now id = record { algorithm = t.algorithm; time = time_of now; fudge = 300; mac = []; oid = id; error = error_of verdict; other = [] }
 
 -- the record of these data, under the name of the key as the request has it: class ANY, 255, and TTL 0 (section 4.2)
 abbrev pub record_of : DomainName → TSIG → Record TSIG
-record_of name t = record { name = name; dns_class = 255; ttl = 0; rdata = t; proof = Indeterminate }
+record_of name t = record { name = name; dns_class = class_any; ttl = 0; rdata = t; proof = Indeterminate }
 
 abbrev pub with_mac : TSIG → List ℕ → TSIG
 with_mac t mac = record t { mac = mac }
@@ -109,12 +111,14 @@ abbrev pub reply_of : List Key → Judgement → List ℕ → ℕ → Option Rep
 reply_of keys (Signed s verdict) message now = answered keys s verdict message now
 reply_of keys other message now = Some (plain message)
 
--- A further message of a transfer, behind one with this MAC. It is signed where the request was judged good, and else it has no record.
+-- A further message of a transfer, behind one with this MAC. It is signed where the request was judged good, and else
+-- it has no record.
 abbrev pub next_of : List Key → Judgement → List ℕ → List ℕ → ℕ → Option Reply
 next_of keys (Signed s Good) prior message now = next_by (key_of keys s.name) s prior (reply_data s.rdata Good now (id_of message)) message
 next_of keys other prior message now = Some (plain message)
 
--- What a call that puts a reply behind other bytes returns is the MAC of that reply. Without the key there is an error, and only then it may tell that.
+-- What a call that puts a reply behind other bytes returns is the MAC of that reply. Without the key there is an error,
+-- and only then it may tell that.
 abbrev pub Puts : Option Reply → List ℕ → List ℕ → Result (List ℕ) SigningError → Type 0
 Puts (Some reply) old new (Ok mac) = (mac ≡ reply.mac) × (new ≡ old ++ reply.bytes)
 Puts (Some reply) old new (Err e) = e ≢ signing_error.Key
@@ -144,8 +148,8 @@ variable_room keys s BadSig = 0
 variable_room keys s BadTime = mac_room (key_of keys s.name) + 6
 variable_room keys s verdict = mac_room (key_of keys s.name)
 
--- How many bytes more a reply takes than before it was signed: the record's name, its ten fixed bytes, the algorithm's name, and sixteen fixed
--- bytes of data (section 4.2), with what varies.
+-- How many bytes more a reply takes than before it was signed: the record's name, its ten fixed bytes, the algorithm's
+-- name, and sixteen fixed bytes of data (section 4.2), with what varies.
 abbrev pub room_of : List Key → Judgement → ℕ
 room_of keys (Signed s verdict) = name_len s.name.labels + 10 + (name_len s.rdata.algorithm.labels + 16) + variable_room keys s verdict
 room_of keys other = 0

@@ -1,4 +1,5 @@
--- How the TSIG record stands in a message: as the last record of its additional section, and nowhere else (RFC 8945 section 5.1).
+-- How the TSIG record stands in a message: as the last record of its additional section, and nowhere else (RFC 8945
+-- section 5.1).
 use Rattle.std.specs.Prelude.{◌≡◌, ◌<◌, ℕ, ◌+◌, List, false, length}
 use Rattle.wire_messages.specs.serialize.layout.HeaderLayout.{HeaderAt}
 use Rattle.wire_messages.specs.serialize.layout.MessageLayout.{ItemsAt, QuestionRead, is_tsig, tsig_record}
@@ -24,7 +25,8 @@ pub record RecordsBegin (bytes : List ℕ) (counts : HeaderCounts) (place : ℕ)
   pub questions : ItemsAt (QuestionRead bytes) 12 queries place
   pub query_count : length queries ≡ counts.queries
 
--- The bytes begin with a message whose records of all three sections stand one behind the other, and none is a TSIG. It ends at stop.
+-- The bytes begin with a message whose records of all three sections stand one behind the other, and none is a TSIG. It
+-- ends at stop.
 pub record UnsignedAt (bytes : List ℕ) (stop : ℕ) : Type 0 where
   pub counts : HeaderCounts
   pub records_at : ℕ
@@ -33,8 +35,8 @@ pub record UnsignedAt (bytes : List ℕ) (stop : ℕ) : Type 0 where
   pub stand : ItemsAt (OtherAt bytes) records_at records stop
   pub number : length records ≡ counts.answers + counts.authorities + counts.additionals
 
--- The bytes begin with a message whose last record, the last of so many additional ones, is a TSIG. It stands from place to stop, where the
--- message ends; none of the records before it is a TSIG.
+-- The bytes begin with a message whose last record, the last of so many additional ones, is a TSIG. It stands from
+-- place to stop, where the message ends; none of the records before it is a TSIG.
 pub record SignedAt (bytes : List ℕ) (additionals place : ℕ) (signature : Record TSIG) (stop : ℕ) : Type 0 where
   pub counts : HeaderCounts
   pub records_at : ℕ

@@ -13,7 +13,8 @@ use Rattle.tsig.specs.Reading.{signature_of}
 use Rattle.tsig.specs.declared.keys.Key.{Key}
 use Rattle.tsig.specs.declared.reading.PlacedSignature.{PlacedSignature}
 
--- The record has its form and is of the key, in name and algorithm, with a MAC of a length that there is and that local policy takes.
+-- The record has its form and is of the key, in name and algorithm, with a MAC of a length that there is and that local
+-- policy takes.
 abbrev pub is_of : Key → Record TSIG → Bool
 is_of key s =
     has_fixed_fields s && nat_lt s.rdata.time (2 ^ 48) && name_eq key.name s.name && is_named key.algorithm s.rdata.algorithm

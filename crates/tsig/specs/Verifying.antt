@@ -1,4 +1,5 @@
--- How a client verifies a reply that it has (RFC 8945 sections 5.4 and 5.3.1), and how it signs a request (section 5.1).
+-- How a client verifies a reply that it has (RFC 8945 sections 5.4 and 5.3.1), and how it signs a request (section
+-- 5.1).
 use Rattle.std.specs.Prelude.{◌≡◌, ◌<◌, ℕ, ◌+◌, Bool, IsTrue, true, false, List, [], length}
 use Rattle.wire_names.specs.rr.domain.DomainName.{AreLabels}
 use Rattle.wire_names.specs.rr.domain.NameOrder.{name_eq}
@@ -23,7 +24,8 @@ use Rattle.tsig.specs.declared.keys.Key.{Key}
 
 -- ---- what is verified
 
--- The bytes are a message that ends in a TSIG record of the key: with the fixed fields, under the key's name and algorithm, with a MAC of a length that there is.
+-- The bytes are a message that ends in a TSIG record of the key: with the fixed fields, under the key's name and
+-- algorithm, with a MAC of a length that there is.
 pub record CarriesKey (key : Key) (bytes : List ℕ) (additionals place : ℕ) (s : Record TSIG) : Type 0 where
   pub stands : SignedAt bytes additionals place s (length bytes)
   pub fixed : IsTrue (has_fixed_fields s)
@@ -59,13 +61,13 @@ pub record OwnAt (bytes : List ℕ) (place : ℕ) (r : Record RData) (next : ℕ
   pub formed : IsFormedRecord r
   pub other : is_tsig r ≡ false
 
--- The same of a question.
+-- A question of a message that stands in its form, of which no byte lies in the header.
 pub record AskedAt (bytes : List ℕ) (place : ℕ) (q : Query) (next : ℕ) : Type 0 where
   pub stands : QuestionAt 12 bytes place q next
   pub formed : IsFormedQuestion q
 
--- The bytes are a message without a TSIG record, with no byte behind it, none of whose names leads into the header; and one more additional
--- record can be counted in it.
+-- The bytes are a message without a TSIG record, with no byte behind it, none of whose names leads into the header; and
+-- one more additional record can be counted in it.
 pub record IsWholeMessage (bytes : List ℕ) : Type 0 where
   pub header : Header
   pub queries : List Query
@@ -80,7 +82,8 @@ pub record IsWholeMessage (bytes : List ℕ) : Type 0 where
 
 -- ---- a client's request
 
--- what the record of a request says, but for the MAC: the key's algorithm, a time and a fudge, the message's id (section 5.1)
+-- what the record of a request says, but for the MAC: the key's algorithm, a time and a fudge, the message's id
+-- (section 5.1)
 abbrev pub request_data : Key → ℕ → ℕ → List ℕ → TSIG
 request_data key time fudge message = record { algorithm = algorithm_name key.algorithm; time = time; fudge = fudge; mac = []; oid = id_of message; error = 0; other = [] }
 

@@ -105,7 +105,8 @@ pub(crate) fn variables_room(key: &Name, t: &TSIG) -> usize {
     (names + FIXED_VARIABLES).saturating_add(t.other.len())
 }
 
-/// The message as it was before it was signed, where its last record begins at this place, with room for some bytes behind it.
+/// The message as it was before it was signed, where its last record begins at this place, with room for some bytes
+/// behind it.
 pub(crate) fn unsigned_message(
     alloc: Global,
     bytes: &[u8],
@@ -162,7 +163,8 @@ pub(crate) fn reply_digest(
     t: &TSIG,
     message: &[u8],
 ) -> Result<Vec<u8>, AllocError>
-    ensures { IfOk result (λ out. out.items ≡ reply_digest mac.now key.now (algorithm_name algorithm) t.now message.now) }
+    ensures { IfOk result (λ out. out.items ≡ reply_digest mac.now key.now
+        (algorithm_name algorithm) t.now message.now) }
 {
     let mut out = digest_begun(alloc, mac, message, variables_room(key, t))?;
     put_variables(&mut out, key, algorithm, t)?;

@@ -24,8 +24,9 @@ pub enum Verdict {
 pub enum Judgement {
     /// It has no TSIG record.
     Unsigned,
-    /// A format error: a TSIG record that is not the last one, or a second one; one with another class than ANY or another
-    /// TTL than 0; a MAC that is longer or shorter than RFC 8945 section 5.2.2.1 allows; or a record that cannot be read.
+    /// A format error: a TSIG record that is not the last one, or a second one; one with another class than ANY or
+    /// another TTL than 0; a MAC that is longer or shorter than RFC 8945 section 5.2.2.1 allows; or a record that
+    /// cannot be read.
     FormErr,
     /// It has one TSIG record, which is the last one.
     Signed {

@@ -71,7 +71,8 @@ pub(crate) fn signed_text(
     bytes: &[u8],
     p: &PlacedSignature,
 ) -> Result<Vec<u8>, AllocError>
-    ensures { IfOk result (λ text. text.items ≡ signed_text key.now bytes.now p.now.additionals p.now.place p.now.signature) }
+    ensures { IfOk result (λ text. text.items ≡ signed_text key.now bytes.now p.now.additionals p.now.place
+        p.now.signature) }
 {
     let t = &p.signature.rdata;
     let room = variables_room(&key.name, t);
@@ -182,20 +183,23 @@ fn judgement_of(alloc: Global, keys: &Keys, bytes: &[u8], now: u64) -> Result<Ju
     }
 }
 
-/// Judges a message by its signature (RFC 8945 section 5.2), at a moment in seconds since 1970. What stands behind the message
-/// in the bytes is not looked at.
+/// Judges a message by its signature (RFC 8945 section 5.2), at a moment in seconds since 1970. What stands behind the
+/// message in the bytes is not looked at.
 ///
 /// It reads each record once and hashes the message once, where there is a key for it. Of a MAC it looks at every byte.
 pub fn judge(alloc: Global, keys: &Keys, bytes: &[u8], now: u64) -> Result<Judgement, AllocError>
     // What is answered is the judgement, and there is but one.
     ensures judged { IfOk result (λ judgement. Judged keys.now bytes.now now judgement) }
-    ensures only { (judgement : Answer) → Judged keys.now bytes.now now judgement → IfOk result (λ answer. answer ≡ judgement) }
+    ensures only { (judgement : Answer) → Judged keys.now bytes.now now judgement →
+        IfOk result (λ answer. answer ≡ judgement) }
 {
     judgement_of(alloc, keys, bytes, now)
 }
 
 /// Any bytes have one judgement, at any moment.
 pub fn one_judgement()
-    ensures same { (keys : List AnyKey) (bytes : List ℕ) (now : ℕ) (a b : Answer) → AreBytes bytes → Judged keys bytes now a → Judged keys bytes now b → a ≡ b }
-    ensures some { (keys : List AnyKey) (bytes : List ℕ) (now : ℕ) → AreBytes bytes → (a : Answer) × Judged keys bytes now a }
+    ensures same { (keys : List AnyKey) (bytes : List ℕ) (now : ℕ) (a b : Answer) → AreBytes bytes →
+        Judged keys bytes now a → Judged keys bytes now b → a ≡ b }
+    ensures some { (keys : List AnyKey) (bytes : List ℕ) (now : ℕ) → AreBytes bytes → (a : Answer) ×
+        Judged keys bytes now a }
 {}

@@ -223,11 +223,15 @@ impl Reader {
 /// - a statement of BIND's configuration, `key "NAME" { algorithm ALGORITHM; secret "SECRET"; };`
 /// - an entry of Knot's configuration, `- id: NAME`, `algorithm: ALGORITHM` and `secret: SECRET` below `key:`.
 ///
-/// Algorithms are in lower case and secrets in base64. Braces, semicolons and quotes only separate words, as blanks do. A word that begins
-/// with `#` or `//`, where no name, algorithm or secret is awaited, begins a comment, which lasts to the end of the line.
+/// Algorithms are in lower case and secrets in base64. Braces, semicolons and quotes only separate words, as blanks do.
+/// A word that begins with `#` or `//`, where no name, algorithm or secret is awaited, begins a comment, which lasts to
+/// the end of the line.
 ///
-/// An error is the first fault, with its line, and no part of the text; or memory was refused. The keys have names that differ, letter case
-/// aside, and take each MAC that RFC 8945 allows.
+/// The keys have names that differ, letter case aside, and take each MAC that RFC 8945 allows.
+///
+/// # Errors
+///
+/// An error is the first fault, with its line, and no part of the text; or memory was refused.
 pub fn read_keys(alloc: Global, text: &str) -> Result<Keys, KeyTextError>
     ensures { IfOk result (λ keys. All IsUsable keys) }
 {

@@ -134,7 +134,8 @@ pub(crate) fn made_key(
     secret: Secret,
     line: usize,
 ) -> Result<Key, KeyTextError>
-    ensures made { IfOk result (λ key. key ≡ record { name = record name { is_fqdn = true }; algorithm = algorithm; secret = secret; shortest = 0 }) }
+    ensures made { IfOk result (λ key.
+        key ≡ record { name = record name { is_fqdn = true }; algorithm = algorithm; secret = secret; shortest = 0 }) }
     ensures usable { IfOk result IsUsable }
 {
     if secret.is_empty() {
@@ -168,8 +169,8 @@ pub(crate) fn key_at(alloc: Global, text: &str, line: usize) -> Result<Key, KeyT
     made_key(name, algorithm, secret, line)
 }
 
-/// The key of a text `ALGORITHM:NAME:SECRET`, as `dig -y` takes it: the algorithm in lower case, the secret in base64. It takes each MAC
-/// that RFC 8945 allows.
+/// The key of a text `ALGORITHM:NAME:SECRET`, as `dig -y` takes it: the algorithm in lower case, the secret in base64.
+/// It takes each MAC that RFC 8945 allows.
 ///
 /// Errors: the first fault of algorithm, name and secret, in this order, at line 1, or memory was refused.
 pub fn read_key(alloc: Global, text: &str) -> Result<Key, KeyTextError>

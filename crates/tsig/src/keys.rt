@@ -12,7 +12,8 @@ use std::alloc::{AllocError, Global};
 use std::marker::Model;
 use wire_names::rr::domain::name::Name;
 
-/// The secret of a key. It has no text form: neither `Debug` nor `Display`, and nothing outside this crate sees its bytes.
+/// The secret of a key. It has no text form: neither `Debug` nor `Display`, and nothing outside this crate sees its
+/// bytes.
 #[derive(Drop)]
 pub struct Secret {
     bytes: Vec<u8>,
@@ -81,7 +82,8 @@ impl Secret {
     }
 }
 
-/// A secret that client and server share, with its name and the one algorithm that it is used with (RFC 8945 section 4.2).
+/// A secret that client and server share, with its name and the one algorithm that it is used with (RFC 8945 section
+/// 4.2).
 #[derive(Drop)]
 pub struct Key {
     /// Its name.
@@ -90,8 +92,8 @@ pub struct Key {
     pub algorithm: Algorithm,
     /// The secret.
     pub secret: Secret,
-    /// How many bytes a MAC has to have at least, by local policy (RFC 8945 section 5.2.4). What the RFC demands at least
-    /// is demanded anyway.
+    /// How many bytes a MAC has to have at least, by local policy (RFC 8945 section 5.2.4). What the RFC demands at
+    /// least is demanded anyway.
     pub shortest: usize,
 }
 
@@ -165,8 +167,8 @@ impl Keys {
         self.keys.is_empty()
     }
 
-    /// Adds a key. Where there is one of its name, that one stays the one that is found. It hashes the pads of the secret, so that
-    /// MACs by it hash two blocks less each.
+    /// Adds a key. Where there is one of its name, that one stays the one that is found. It hashes the pads of the
+    /// secret, so that MACs by it hash two blocks less each.
     pub fn add(&mut self, mut key: Key) -> Result<(), AllocError>
         ensures ok { OnOk result (self.new ≡ self.old ++ key ∷ []) }
         ensures err { OnErr result (self.new ≡ self.old) }

@@ -1,4 +1,5 @@
-//! Transaction signatures (TSIG, RFC 8945) by HMAC over SHA-2: keys, how a message is judged by them, and how replies are signed.
+//! Transaction signatures (TSIG, RFC 8945) by HMAC over SHA-2: keys, how a message is judged by them, and how replies
+//! are signed.
 #![tactic(auto)]
 
 mod algorithm;

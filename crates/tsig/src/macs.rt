@@ -67,7 +67,8 @@ pub(crate) fn pads_of(
 /// The HMAC of a text behind pads.
 #[tactic(auto, unfolding(crate::specs::Hmac::hmac))]
 pub(crate) fn hmac_behind(alloc: Global, pads: &Pads, text: &[u8]) -> Result<Vec<u8>, AllocError>
-    ensures value { (key : List ℕ) → ArePads key pads.now → IfOk result (λ digest. digest.items ≡ hmac (function_of pads.now) key text.now) }
+    ensures value { (key : List ℕ) → ArePads key pads.now →
+        IfOk result (λ digest. digest.items ≡ hmac (function_of pads.now) key text.now) }
     ensures len { IfOk result (λ digest. length digest.items ≡ hash_len (function_of pads.now)) }
 {
     pads.finished(alloc, text)
@@ -102,8 +103,8 @@ pub fn mac(
     Ok(mac)
 }
 
-/// Whether two MACs are the same. It looks at every byte, whatever it finds: where two of one length first differ does not
-/// change what it does.
+/// Whether two MACs are the same. It looks at every byte, whatever it finds: where two of one length first differ does
+/// not change what it does.
 #[inline(never)]
 pub fn is_same_mac(a: &[u8], b: &[u8]) -> bool
     ensures { result ≡ bytes_eq a.now b.now }

@@ -11,7 +11,8 @@ use crate::algorithm::HashFunction;
 use sha2::{Digest, Sha256, Sha384, Sha512};
 use std::alloc::{AllocError, Global};
 
-/// Two hashers of one function: one has taken the inner pad of a key, the other the outer one. What an HMAC hashes of the key is hashed in them.
+/// Two hashers of one function: one has taken the inner pad of a key, the other the outer one. What an HMAC hashes of
+/// the key is hashed in them.
 #[derive(Drop)]
 pub(crate) enum Pads {
     /// By SHA-256.
@@ -22,7 +23,7 @@ pub(crate) enum Pads {
     By512(Sha512, Sha512),
 }
 
-/// The digest of what a hasher holds, and a text behind it.
+/// The digest by SHA-256 of what a hasher holds, and a text behind it.
 fn finished256(hasher: &Sha256, text: &[u8]) -> Result<[u8; 32], AllocError>
     ensures { (held : List ℕ) → Holds256 hasher.now held → IfOk result (λ digest. digest ≡ sha256 (held ++ text.now)) }
 {
@@ -31,7 +32,7 @@ fn finished256(hasher: &Sha256, text: &[u8]) -> Result<[u8; 32], AllocError>
     Ok(hasher.finalize())
 }
 
-/// The same by SHA-384.
+/// The digest by SHA-384 of what a hasher holds, and a text behind it.
 fn finished384(hasher: &Sha384, text: &[u8]) -> Result<[u8; 48], AllocError>
     ensures { (held : List ℕ) → Holds384 hasher.now held → IfOk result (λ digest. digest ≡ sha384 (held ++ text.now)) }
 {
@@ -40,7 +41,7 @@ fn finished384(hasher: &Sha384, text: &[u8]) -> Result<[u8; 48], AllocError>
     Ok(hasher.finalize())
 }
 
-/// The same by SHA-512.
+/// The digest by SHA-512 of what a hasher holds, and a text behind it.
 fn finished512(hasher: &Sha512, text: &[u8]) -> Result<[u8; 64], AllocError>
     ensures { (held : List ℕ) → Holds512 hasher.now held → IfOk result (λ digest. digest ≡ sha512 (held ++ text.now)) }
 {
@@ -49,14 +50,16 @@ fn finished512(hasher: &Sha512, text: &[u8]) -> Result<[u8; 64], AllocError>
     Ok(hasher.finalize())
 }
 
-/// The digest of what the second hasher holds and, behind it, the digest of what the first one holds and a text.
+/// By SHA-256 the digest of what the second hasher holds and, behind it, the digest of what the first one holds and a
+/// text.
 fn twice256(
     alloc: Global,
     first: &Sha256,
     second: &Sha256,
     text: &[u8],
 ) -> Result<Vec<u8>, AllocError>
-    ensures value { (i o : List ℕ) → Holds256 first.now i → Holds256 second.now o → IfOk result (λ digest. digest.items ≡ sha256 (o ++ sha256 (i ++ text.now))) }
+    ensures value { (i o : List ℕ) → Holds256 first.now i → Holds256 second.now o →
+        IfOk result (λ digest. digest.items ≡ sha256 (o ++ sha256 (i ++ text.now))) }
     ensures len { IfOk result (λ digest. length digest.items ≡ 32) }
 {
     let digest = finished256(first, text)?;
@@ -64,14 +67,16 @@ fn twice256(
     Vec::from_slice(alloc, &digest)
 }
 
-/// The same by SHA-384.
+/// By SHA-384 the digest of what the second hasher holds and, behind it, the digest of what the first one holds and a
+/// text.
 fn twice384(
     alloc: Global,
     first: &Sha384,
     second: &Sha384,
     text: &[u8],
 ) -> Result<Vec<u8>, AllocError>
-    ensures value { (i o : List ℕ) → Holds384 first.now i → Holds384 second.now o → IfOk result (λ digest. digest.items ≡ sha384 (o ++ sha384 (i ++ text.now))) }
+    ensures value { (i o : List ℕ) → Holds384 first.now i → Holds384 second.now o →
+        IfOk result (λ digest. digest.items ≡ sha384 (o ++ sha384 (i ++ text.now))) }
     ensures len { IfOk result (λ digest. length digest.items ≡ 48) }
 {
     let digest = finished384(first, text)?;
@@ -79,14 +84,16 @@ fn twice384(
     Vec::from_slice(alloc, &digest)
 }
 
-/// The same by SHA-512.
+/// By SHA-512 the digest of what the second hasher holds and, behind it, the digest of what the first one holds and a
+/// text.
 fn twice512(
     alloc: Global,
     first: &Sha512,
     second: &Sha512,
     text: &[u8],
 ) -> Result<Vec<u8>, AllocError>
-    ensures value { (i o : List ℕ) → Holds512 first.now i → Holds512 second.now o → IfOk result (λ digest. digest.items ≡ sha512 (o ++ sha512 (i ++ text.now))) }
+    ensures value { (i o : List ℕ) → Holds512 first.now i → Holds512 second.now o →
+        IfOk result (λ digest. digest.items ≡ sha512 (o ++ sha512 (i ++ text.now))) }
     ensures len { IfOk result (λ digest. length digest.items ≡ 64) }
 {
     let digest = finished512(first, text)?;
@@ -129,7 +136,9 @@ impl Pads {
 
     /// The digest of what the outer hasher holds and, behind it, the digest of what the inner one holds and a text.
     pub(crate) fn finished(&self, alloc: Global, text: &[u8]) -> Result<Vec<u8>, AllocError>
-        ensures value { (i o : List ℕ) → Hold self.now i o → IfOk result (λ digest. digest.items ≡ hash_of (function_of self.now) (o ++ hash_of (function_of self.now) (i ++ text.now))) }
+        ensures value { (i o : List ℕ) → Hold self.now i o →
+            IfOk result (λ digest. digest.items ≡ hash_of (function_of self.now)
+            (o ++ hash_of (function_of self.now) (i ++ text.now))) }
         ensures len { IfOk result (λ digest. length digest.items ≡ hash_len (function_of self.now)) }
     {
         match self {

@@ -27,7 +27,8 @@ pub(crate) struct PlacedSignature {
 
 /// Goes behind so many questions.
 fn skip_queries(alloc: Global, decoder: &mut BinDecoder<'_>, count: u16) -> Result<(), DecodeError>
-    ensures { MatchResult result (λ _. skip question count decoder.old ≡ Ok decoder.new) (λ e. Fails e (skip question count decoder.old)) }
+    ensures { MatchResult result (λ _. skip question count decoder.old ≡ Ok decoder.new)
+        (λ e. Fails e (skip question count decoder.old)) }
 {
     let mut left = count;
     while left > 0 {
@@ -51,7 +52,8 @@ fn read_other(alloc: Global, decoder: &mut BinDecoder<'_>) -> Result<Record, Dec
 
 /// Goes behind so many records, none of which is a TSIG.
 fn skip_others(alloc: Global, decoder: &mut BinDecoder<'_>, count: u32) -> Result<(), DecodeError>
-    ensures { MatchResult result (λ _. skip other count decoder.old ≡ Ok decoder.new) (λ e. Fails e (skip other count decoder.old)) }
+    ensures { MatchResult result (λ _. skip other count decoder.old ≡ Ok decoder.new)
+        (λ e. Fails e (skip other count decoder.old)) }
 {
     let mut left = count;
     while left > 0 {
@@ -96,7 +98,8 @@ fn last_of(
     counts: HeaderCounts,
 ) -> Result<Option<PlacedSignature>, DecodeError>
     requires { 0 < counts.additionals }
-    ensures { MatchResult result (λ last. last_of counts decoder.old ≡ Ok last) (λ e. Fails e (last_of counts decoder.old)) }
+    ensures { MatchResult result (λ last. last_of counts decoder.old ≡ Ok last)
+        (λ e. Fails e (last_of counts decoder.old)) }
 {
     let others = u32::from(counts.answers) + u32::from(counts.authorities);
     skip_others(alloc, decoder, others + u32::from(counts.additionals - 1))?;
@@ -112,7 +115,8 @@ fn none_of(
     decoder: &mut BinDecoder<'_>,
     counts: HeaderCounts,
 ) -> Result<Option<PlacedSignature>, DecodeError>
-    ensures { MatchResult result (λ last. none_of counts decoder.old ≡ Ok last) (λ e. Fails e (none_of counts decoder.old)) }
+    ensures { MatchResult result (λ last. none_of counts decoder.old ≡ Ok last)
+        (λ e. Fails e (none_of counts decoder.old)) }
 {
     let others = u32::from(counts.answers) + u32::from(counts.authorities);
     skip_others(alloc, decoder, others)?;
@@ -126,7 +130,8 @@ fn signature_behind(
     decoder: &mut BinDecoder<'_>,
     counts: HeaderCounts,
 ) -> Result<Option<PlacedSignature>, DecodeError>
-    ensures { MatchResult result (λ last. signature_behind counts decoder.old ≡ Ok last) (λ e. Fails e (signature_behind counts decoder.old)) }
+    ensures { MatchResult result (λ last. signature_behind counts decoder.old ≡ Ok last)
+        (λ e. Fails e (signature_behind counts decoder.old)) }
 {
     skip_queries(alloc, decoder, counts.queries)?;
     if counts.additionals == 0 {
@@ -142,7 +147,8 @@ pub(crate) fn signature_of(
     alloc: Global,
     bytes: &[u8],
 ) -> Result<Option<PlacedSignature>, DecodeError>
-    ensures { MatchResult result (λ last. signature_of (front_of bytes.now) ≡ Ok last) (λ e. Fails e (signature_of (front_of bytes.now))) }
+    ensures { MatchResult result (λ last. signature_of (front_of bytes.now) ≡ Ok last)
+        (λ e. Fails e (signature_of (front_of bytes.now))) }
 {
     let mut decoder = BinDecoder::new(bytes);
     let header = decoder.read_header()?;

@@ -25,9 +25,9 @@ const BAD_SIG: u16 = 16;
 /// The error where the time does not fit.
 const BAD_TIME: u16 = 18;
 
-/// It signs by its keys what a catalog has it sign. A context tells less of a request than a `Judgement`: where the key is not
-/// known the record names hmac-sha256, and a BADTIME reply has the server's time in the place of the client's. `sign` does
-/// both as RFC 8945 wants it.
+/// It signs by its keys what a catalog has it sign. A context tells less of a request than a `Judgement`: where the key
+/// is not known the record names hmac-sha256, and a BADTIME reply has the server's time in the place of the client's.
+/// `sign` does both as RFC 8945 wants it.
 #[derive(Drop)]
 pub struct TsigSigner {
     /// The keys.
@@ -117,7 +117,8 @@ fn signature_by(
     context: &TSigResponseContext,
     bytes: &[u8],
 ) -> Result<Option<Record<TSIG>>, AllocError>
-    ensures { IfOk result (λ made. made ≡ signature_by (option_copied key.entry) context.entry.now bytes.now context.entry.now.kind) }
+    ensures { IfOk result (λ made. made ≡ signature_by (option_copied key.entry) context.entry.now bytes.now
+        context.entry.now.kind) }
 {
     if let TSigResponseKind::UnknownKey = &context.kind {
         let made = unsigned_error(alloc, Algorithm::HmacSha256, context, BAD_KEY)?;

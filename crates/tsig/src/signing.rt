@@ -76,7 +76,17 @@ fn plain_data(
     now: u64,
     id: u16,
 ) -> Result<TSIG, AllocError>
-    ensures { IfOk result (λ made. made ≡ record { algorithm = t.now.algorithm; time = time_of now; fudge = 300; mac = []; oid = id; error = error_of verdict; other = [] }) }
+    ensures { IfOk result (λ made.
+        made ≡ record {
+          algorithm = t.now.algorithm;
+          time = time_of now;
+          fudge = 300;
+          mac = [];
+          oid = id;
+          error =
+              error_of verdict;
+          other = [];
+        }) }
 {
     Ok(TSIG {
         algorithm: t.algorithm.clone()?,
@@ -151,7 +161,8 @@ fn put_with_mac(
     requires short { length mac.items ≤ 64 }
     requires other { length t.other ≤ 6 }
     ensures mac { IfOk result (λ put. put ≡ mac.items) }
-    ensures bytes { OnOk result (out.new.items ≡ out.old.items ++ appended message.now (record_of name.now (with_mac t mac.items))) }
+    ensures bytes { OnOk result (out.new.items ≡ out.old.items ++ appended message.now
+        (record_of name.now (with_mac t mac.items))) }
 {
     let mac = Octets::from_vec(mac);
     let t = TSIG { mac, ..t };
@@ -226,7 +237,8 @@ fn put_next(
     requires room { HasRoom message.now }
     requires time { t.time < 2 ^ 48 }
     requires other { length t.other ≤ 6 }
-    ensures puts { Puts (next_by (option_copied key.entry) s.now prior.now t message.now) out.old.items out.new.items result }
+    ensures puts { Puts (next_by (option_copied key.entry) s.now prior.now t message.now) out.old.items out.new.items
+        result }
     ensures room { IfErr result (λ e. e ≢ SigningError.Message) }
 {
     let Some(key) = key else {
@@ -289,17 +301,19 @@ fn put_plain(alloc: Global, message: &[u8], out: &mut Vec<u8>) -> Result<Octets,
 }
 
 /// Signs a reply, over the bytes that leave, and puts it behind those that `out` has (RFC 8945 sections 5.3 and 5.3.2).
-/// `message` is the reply without a TSIG record, to a request that was judged so by these keys; the moment is in seconds since
+/// `message` is the reply without a TSIG record, to a request that was judged so by these keys; the moment is in
+/// seconds since
 /// 1970. It returns the MAC, which the next message of a transfer is signed over; it is empty where there is none.
 ///
-/// The reply is the message with its id, one more additional record counted, and the TSIG record in full behind it. It is
-/// signed where the request's key and MAC are right, also where its time is wrong (then with the request's time and fudge,
-/// and the server's time as other data) or its MAC too short for local policy. For a wrong key or MAC the record tells the
-/// error without a MAC. Where the request had no TSIG record, or one without its form, the message is put as it is.
+/// The reply is the message with its id, one more additional record counted, and the TSIG record in full behind it. It
+/// is signed where the request's key and MAC are right, also where its time is wrong (then with the request's time and
+/// fudge, and the server's time as other data) or its MAC too short for local policy. For a wrong key or MAC the record
+/// tells the error without a MAC. Where the request had no TSIG record, or one without its form, the message is put as
+/// it is.
 ///
-/// Errors: `Message` where a record is needed and the bytes have no header, or count 65535 additional records; `Key` only where
-/// the key is not among these, and then there is an error. After an error nothing is promised of `out`. It hashes the
-/// message once, and takes memory for a copy of it.
+/// Errors: `Message` where a record is needed and the bytes have no header, or count 65535 additional records; `Key`
+/// only where the key is not among these, and then there is an error. After an error nothing is promised of `out`. It
+/// hashes the message once, and takes memory for a copy of it.
 pub fn sign(
     alloc: Global,
     keys: &Keys,
@@ -308,8 +322,10 @@ pub fn sign(
     now: u64,
     out: &mut Vec<u8>,
 ) -> Result<Octets, SigningError>
-    ensures puts { Puts (reply_of keys.now judgement.now message.now now) out.old.items out.new.items result ⊎ (result ≡ Err SigningError.Message) }
-    ensures message { (result ≡ Err SigningError.Message) ↔ (IsTrue (needs_record judgement.now) × (HasRoom message.now → ⊥)) }
+    ensures puts { Puts (reply_of keys.now judgement.now message.now now) out.old.items out.new.items result ⊎
+        (result ≡ Err SigningError.Message) }
+    ensures message { (result ≡ Err SigningError.Message) ↔
+        (IsTrue (needs_record judgement.now) × (HasRoom message.now → ⊥)) }
 {
     match judgement {
         Judgement::Unsigned => Ok(put_plain(alloc, message, out)?),
@@ -323,9 +339,9 @@ pub fn sign(
     }
 }
 
-/// Signs a further message of a transfer, as `sign` does its first (RFC 8945 section 5.3.1): over the MAC of the message before
-/// it, `prior`, the message, and the timers alone. Where the request was not judged good, the message is put as it is. Errors and
-/// costs are those of `sign`.
+/// Signs a further message of a transfer, as `sign` does its first (RFC 8945 section 5.3.1): over the MAC of the
+/// message before it, `prior`, the message, and the timers alone. Where the request was not judged good, the message is
+/// put as it is. Errors and costs are those of `sign`.
 pub fn sign_next(
     alloc: Global,
     keys: &Keys,
@@ -335,8 +351,10 @@ pub fn sign_next(
     now: u64,
     out: &mut Vec<u8>,
 ) -> Result<Octets, SigningError>
-    ensures puts { Puts (next_of keys.now judgement.now prior.now message.now now) out.old.items out.new.items result ⊎ (result ≡ Err SigningError.Message) }
-    ensures message { (result ≡ Err SigningError.Message) ↔ (IsTrue (next_needs_record judgement.now) × (HasRoom message.now → ⊥)) }
+    ensures puts { Puts (next_of keys.now judgement.now prior.now message.now now) out.old.items out.new.items result ⊎
+        (result ≡ Err SigningError.Message) }
+    ensures message { (result ≡ Err SigningError.Message) ↔
+        (IsTrue (next_needs_record judgement.now) × (HasRoom message.now → ⊥)) }
 {
     let Judgement::Signed {
         signature,
@@ -378,8 +396,8 @@ fn variable_room(keys: &Keys, s: &Record<TSIG>, verdict: Verdict) -> usize
     }
 }
 
-/// How many bytes more a reply to a request that was judged so has once it is signed: 606 at most. So that the reply keeps a
-/// limit, it is to be written within that limit less this.
+/// How many bytes more a reply to a request that was judged so has once it is signed: 606 at most. So that the reply
+/// keeps a limit, it is to be written within that limit less this.
 pub fn room(keys: &Keys, judgement: &Judgement) -> usize
     ensures value { result ≡ room_of keys.now judgement.now }
     ensures bound { result ≤ 606 }

@@ -28,7 +28,8 @@ fn without_last(
 
 /// The message without its TSIG record, where its last record is one.
 fn without_signature(alloc: Global, bytes: &[u8]) -> Result<Option<Vec<u8>>, AllocError>
-    ensures { IfOk result (λ found. MatchOption found (IsStripped bytes.now bytes.now) (λ out. IsStripped bytes.now out.items)) }
+    ensures { IfOk result (λ found. MatchOption found (IsStripped bytes.now bytes.now)
+        (λ out. IsStripped bytes.now out.items)) }
 {
     match signature_of(alloc, bytes) {
         Ok(Some(p)) => {
@@ -41,8 +42,8 @@ fn without_signature(alloc: Global, bytes: &[u8]) -> Result<Option<Vec<u8>>, All
     }
 }
 
-/// The message without its TSIG record, where its last record is one (RFC 8945 section 5.1); and else the message as it is. The id
-/// stays. It reads each record once, and takes memory for a copy only where there is a TSIG.
+/// The message without its TSIG record, where its last record is one (RFC 8945 section 5.1); and else the message as it
+/// is. The id stays. It reads each record once, and takes memory for a copy only where there is a TSIG.
 pub fn stripped(alloc: Global, message: Octets) -> Result<Octets, AllocError>
     ensures { IfOk result (IsStripped message) }
 {

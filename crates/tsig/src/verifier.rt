@@ -7,7 +7,7 @@ ghost use Rattle.tsig.specs.Validity.{is_of, is_signed, times_by, times_of, vali
 use crate::judging::{has_fixed_fields, is_mac_len, is_mac_of, is_named, signed_text};
 use crate::keys::{Key, Keys};
 use crate::reading::{PlacedSignature, signature_of};
-use hickory_store::sqlite::{Verifier, VerifyError};
+use hickory_store::updates::{Verifier, VerifyError};
 use std::alloc::{AllocError, Global};
 use std::ops::Range;
 use wire_messages::rr::record::Record;
@@ -18,8 +18,8 @@ use wire_names::rr::domain::name::Name;
 /// The seconds since 1970 have so many bits in a signature.
 const TIME_BITS: u32 = 48;
 
-/// It judges signatures by its keys, for one handler. `judge` says more of a message: this says of a signature only whether it is
-/// good, and when, so that a key of another algorithm is as bad as a wrong MAC.
+/// It judges signatures by its keys, for one handler. `judge` says more of a message: this says of a signature only
+/// whether it is good, and when, so that a key of another algorithm is as bad as a wrong MAC.
 #[derive(Drop)]
 pub struct TsigVerifier {
     /// The keys.

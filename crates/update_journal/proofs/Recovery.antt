@@ -93,7 +93,8 @@ small_and_more read v entry small new is =
 short : (bytes : List ℕ) → length bytes < 5 → IsEnd bytes
 short bytes few entry rest small e = absurd (omega (arith, ap length e, few, length-append (frame entry) rest, length-append (to_be_bytes w32 (length entry)) entry))
 
--- What a write of one byte at the end leaves, where what stands there is no gate or an open one, or is all that the file has.
+-- What a write of one byte at the end leaves, where what stands there is no gate or an open one, or is all that the
+-- file has.
 pub closing : (file : List ℕ) (entries : List (List ℕ)) (end : ℕ) (c : List ℕ) → IsSplit file entries end → (end < length file → (get_or file end 0 ≡ 1) ⊎ (length file ≤ 1)) → Torn end 1 file c → StandsFor c entries
 closing file entries end c s tested torn = by s.rest s.split s.ends
   where

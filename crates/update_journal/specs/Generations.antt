@@ -20,7 +20,8 @@ header generation = to_be_bytes w64 generation
 abbrev pub IsBeingReplaced : List (List ℕ) → List (List ℕ) → List ℕ → Type 0
 IsBeingReplaced old new file = StandsFor file old ⊎ (StandsFor file [] ⊎ StandsFor file new)
 
--- Two files stand for the entries of the one whose generation is higher, and of the first where both have one generation.
+-- Two files stand for the entries of the one whose generation is higher, and of the first where both have one
+-- generation.
 abbrev pub StandFor : List ℕ → List ℕ → List (List ℕ) → Type 0
 StandFor first second entries =
     (mine : List (List ℕ)) × (theirs : List (List ℕ)) × StandsFor first mine × StandsFor second theirs

@@ -6,8 +6,9 @@ use Rattle.update_journal.specs.Frames.{IsSmall, frame}
 abbrev pub BeginsWithEntry : List ℕ → Type 0
 BeginsWithEntry bytes = (entry : List ℕ) × (rest : List ℕ) × IsSmall entry × (bytes ≡ frame entry ++ rest)
 
--- A journal's file at any moment, a crash at any point included: it has at most the byte that is the first to be written, whatever a crash has made of
--- it; or its first gate is closed by a 0, and what stands behind it counts for nothing; or its first entry is whole.
+-- A journal's file at any moment, a crash at any point included: it has at most the byte that is the first to be
+-- written, whatever a crash has made of it; or its first gate is closed by a 0, and what stands behind it counts for
+-- nothing; or its first entry is whole.
 abbrev pub IsJournal : List ℕ → Type 0
 IsJournal file = (length file ≤ 1) ⊎ ((slice_index file 0 ≡ 0) ⊎ BeginsWithEntry file)
 

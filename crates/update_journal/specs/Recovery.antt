@@ -12,8 +12,8 @@ pub record IsLeftAlone {D : Type 0} (seen : D → List ℕ) (may_leave : D → L
   pub same : seen new ≡ seen old
   pub no_more : (c : List ℕ) → may_leave new c → may_leave old c
 
--- Where the disk told no lie, the file is a journal's, the entries are those that it stands for, and it is at rest with them. A crash at any moment of
--- the call leaves a file that stands for them, and is a journal's where it was one.
+-- Where the disk told no lie, the file is a journal's, the entries are those that it stands for, and it is at rest with
+-- them. A crash at any moment of the call leaves a file that stands for them, and is a journal's where it was one.
 pub record Recovers {D : Type 0} (seen : D → List ℕ) (may_leave : D → List ℕ → Type 0) (is_clean : D → Bool) (old : D) (result : Result Recovered RecoverError) (new : D) : Type 0 where
   pub found : IfOk result (λ found. IsTrue (is_clean new) → StandsFor (seen old) (contents found.entries.items))
   pub settled : IfOk result (λ found. IsTrue (is_clean new) → IsAtRest seen may_leave new found.end (contents found.entries.items))

@@ -12,8 +12,8 @@ IsClosed [] gate = gate ≡ 0
 IsClosed (entry ∷ entries) gate = gate ≢ 1
 
 module _ {D : Type 0} (seen : D → List ℕ) (may_leave : D → List ℕ → Type 0) where
-  -- The file is the frames of these entries, and then, at this place, a gate that is closed. What stands behind it counts for nothing. All of
-  -- it is on the disk.
+  -- The file is the frames of these entries, and then, at this place, a gate that is closed. What stands behind it
+  -- counts for nothing. All of it is on the disk.
   pub record IsAtRest (disk : D) (end : ℕ) (entries : List (List ℕ)) : Type 0 where
     pub gate : ℕ
     pub junk : List ℕ
@@ -40,7 +40,7 @@ abbrev pub behind_gate : List ℕ → List (List ℕ) → List ℕ
 behind_gate first others = (to_be_bytes w32 (length first) ++ first) ++ frames others ++ 0 ∷ []
 
 module _ {D : Type 0} (seen : D → List ℕ) (may_leave : D → List ℕ → Type 0) where
-  -- the same with more entries behind the gate
+  -- a journal at rest, with more entries behind the closed gate
   pub record IsStaged (disk : D) (end : ℕ) (entries : List (List ℕ)) (first : List ℕ) (others : List (List ℕ)) : Type 0 where
     pub gate : ℕ
     pub junk : List ℕ
@@ -50,7 +50,7 @@ module _ {D : Type 0} (seen : D → List ℕ) (may_leave : D → List ℕ → Ty
     pub small : AreSmall entries
     pub durable : Only (seen disk) (may_leave disk)
 
-  -- the same with the gate open
+  -- these entries behind the open gate
   pub record IsOpened (disk : D) (entries : List (List ℕ)) (first : List ℕ) (others : List (List ℕ)) : Type 0 where
     pub junk : List ℕ
     pub file : seen disk ≡ frames entries ++ 1 ∷ (behind_gate first others ++ junk)

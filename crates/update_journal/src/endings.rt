@@ -10,7 +10,8 @@ pub enum Ending {
     Whole,
     /// So many bytes stand behind the closed gate: of entries that were taken out, or whose gate was not opened.
     Behind(usize),
-    /// The gate is open, and the bytes behind it, so many, are no whole entry. No crash leaves this where the disk tells no lie.
+    /// The gate is open, and the bytes behind it, so many, are no whole entry. No crash leaves this where the disk
+    /// tells no lie.
     Open(usize),
     /// No gate stands behind the entries. No crash leaves this where the disk tells no lie.
     Missing,

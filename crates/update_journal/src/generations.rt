@@ -15,8 +15,8 @@ fn number(bytes: &[u8]) -> u64
     ])
 }
 
-/// The generation of a file, by the entries that `recover` found in it: the number that its first entry is, in eight bytes, which
-/// `Journal::replace` puts there; 0 where the first entry is of another length, or there is none.
+/// The generation of a file, by the entries that `recover` found in it: the number that its first entry is, in eight
+/// bytes, which `Journal::replace` puts there; 0 where the first entry is of another length, or there is none.
 pub fn generation(entries: &[Vec<u8>]) -> u64
     ensures { result ≡ generation_of (contents entries.now) }
 {
@@ -29,8 +29,9 @@ pub fn generation(entries: &[Vec<u8>]) -> u64
     number(first)
 }
 
-/// Whether a file has a higher generation than another one, by the entries that `recover` found in each: where the second of two files
-/// has one than the first, its entries count, and the first is the next to be replaced; else it is the other way round.
+/// Whether a file has a higher generation than another one, by the entries that `recover` found in each: where the
+/// second of two files has one than the first, its entries count, and the first is the next to be replaced; else it is
+/// the other way round.
 pub fn is_newer(entries: &[Vec<u8>], others: &[Vec<u8>]) -> bool
     ensures { IsTrue result ↔ (generation_of (contents others.now) < generation_of (contents entries.now)) }
 {

@@ -74,39 +74,47 @@ impl<D: Disk> Journal<D> {
 
     /// Adds an entry. At `Ok` it is acknowledged: from then on each crash leaves a file that has it. Two syncs.
     ///
-    /// After `Disk` the file stands for the entries from before, with this one or without, and the journal takes no entry
-    /// any more; it has to be recovered from its file. After every other error nothing was written.
+    /// After `Disk` the file stands for the entries from before, with this one or without, and the journal takes no
+    /// entry any more; it has to be recovered from its file. After every other error nothing was written.
     pub fn append(&mut self, alloc: Global, entry: &[u8]) -> Result<(), JournalError>
-        ensures acknowledged { OnOk result ((entries : List (List ℕ)) → IsSettled D.seen D.may_leave self.old entries → IsSettled D.seen D.may_leave self.new (entries ++ entry.now ∷ [])) }
+        ensures acknowledged { OnOk result ((entries : List (List ℕ)) → IsSettled D.seen D.may_leave self.old entries →
+            IsSettled D.seen D.may_leave self.new (entries ++ entry.now ∷ [])) }
         ensures opened { OnOk result ((self.old.is_open ≡ true) × (self.new.is_open ≡ true)) }
         ensures unwritten { IfErr result (λ e. IsFalse (is_of_disk e) → self.new ≡ self.old) }
-        ensures failed { IfErr result (λ e. IsTrue (is_of_disk e) → (self.old.is_open ≡ true) × (self.new.is_open ≡ false) × MoreFaults (D.faults self.old.disk) (D.faults self.new.disk)) }
+        ensures failed { IfErr result (λ e. IsTrue (is_of_disk e) → (self.old.is_open ≡ true) ×
+            (self.new.is_open ≡ false) × MoreFaults (D.faults self.old.disk) (D.faults self.new.disk)) }
         ensures shut { result ≡ Err journal_error.Shut → IsShut D.is_usable self.old }
         ensures too_long { result ≡ Err journal_error.TooLong → 2 ^ 32 ≤ length entry.now }
         ensures clean { D.is_clean self.new.disk ≡ D.is_clean self.old.disk }
         // Whatever the answer, a crash leaves the entries from before, with the new one or without.
-        ensures crash { (entries : List (List ℕ)) → IsSettled D.seen D.may_leave self.old entries → (c : List ℕ) → D.may_leave self.new.disk c → IsBeforeOrAfter entries (entry.now ∷ []) c }
-        ensures journal { Mixes D.is_mixing → (entries : List (List ℕ)) → IsSettled D.seen D.may_leave self.old entries → (c : List ℕ) → D.may_leave self.new.disk c → IsJournal c }
+        ensures crash { (entries : List (List ℕ)) → IsSettled D.seen D.may_leave self.old entries → (c : List ℕ) →
+            D.may_leave self.new.disk c → IsBeforeOrAfter entries (entry.now ∷ []) c }
+        ensures journal { Mixes D.is_mixing → (entries : List (List ℕ)) →
+            IsSettled D.seen D.may_leave self.old entries → (c : List ℕ) → D.may_leave self.new.disk c → IsJournal c }
     {
         self.add(alloc, entry, &[])
     }
 
-    /// Adds entries, all or none: one opening of a gate shows them all. At `Ok` they are acknowledged. Two syncs for all; none
-    /// where there are no entries.
+    /// Adds entries, all or none: one opening of a gate shows them all. At `Ok` they are acknowledged. Two syncs for
+    /// all; none where there are no entries.
     ///
-    /// After `Disk` the file stands for the entries from before, with all of these or with none, and the journal takes no
-    /// entry any more; it has to be recovered from its file. After every other error nothing was written.
+    /// After `Disk` the file stands for the entries from before, with all of these or with none, and the journal takes
+    /// no entry any more; it has to be recovered from its file. After every other error nothing was written.
     pub fn append_all(&mut self, alloc: Global, entries: &[Vec<u8>]) -> Result<(), JournalError>
-        ensures acknowledged { OnOk result ((before : List (List ℕ)) → IsSettled D.seen D.may_leave self.old before → IsSettled D.seen D.may_leave self.new (before ++ contents entries.now)) }
+        ensures acknowledged { OnOk result ((before : List (List ℕ)) → IsSettled D.seen D.may_leave self.old before →
+            IsSettled D.seen D.may_leave self.new (before ++ contents entries.now)) }
         ensures opened { OnOk result ((self.old.is_open ≡ true) × (self.new.is_open ≡ true)) }
         ensures unwritten { IfErr result (λ e. IsFalse (is_of_disk e) → self.new ≡ self.old) }
-        ensures failed { IfErr result (λ e. IsTrue (is_of_disk e) → (self.old.is_open ≡ true) × (self.new.is_open ≡ false) × MoreFaults (D.faults self.old.disk) (D.faults self.new.disk)) }
+        ensures failed { IfErr result (λ e. IsTrue (is_of_disk e) → (self.old.is_open ≡ true) ×
+            (self.new.is_open ≡ false) × MoreFaults (D.faults self.old.disk) (D.faults self.new.disk)) }
         ensures shut { result ≡ Err journal_error.Shut → IsShut D.is_usable self.old }
         ensures too_long { result ≡ Err journal_error.TooLong → AreTooLong (contents entries.now) }
         ensures clean { D.is_clean self.new.disk ≡ D.is_clean self.old.disk }
         // Whatever the answer, a crash leaves the entries from before, with all of the new ones or with none.
-        ensures crash { (before : List (List ℕ)) → IsSettled D.seen D.may_leave self.old before → (c : List ℕ) → D.may_leave self.new.disk c → IsBeforeOrAfter before (contents entries.now) c }
-        ensures journal { Mixes D.is_mixing → (before : List (List ℕ)) → IsSettled D.seen D.may_leave self.old before → (c : List ℕ) → D.may_leave self.new.disk c → IsJournal c }
+        ensures crash { (before : List (List ℕ)) → IsSettled D.seen D.may_leave self.old before → (c : List ℕ) →
+            D.may_leave self.new.disk c → IsBeforeOrAfter before (contents entries.now) c }
+        ensures journal { Mixes D.is_mixing → (before : List (List ℕ)) → IsSettled D.seen D.may_leave self.old before →
+            (c : List ℕ) → D.may_leave self.new.disk c → IsJournal c }
     {
         if !self.is_open {
             return Err(JournalError::Shut);
@@ -119,18 +127,22 @@ impl<D: Disk> Journal<D> {
 
     /// Takes all entries out. One sync; none where there are no entries.
     ///
-    /// After `Disk` the file stands for the entries from before or for none, and the journal takes no entry any more; it has
-    /// to be recovered from its file. After every other error nothing was written.
+    /// After `Disk` the file stands for the entries from before or for none, and the journal takes no entry any more;
+    /// it has to be recovered from its file. After every other error nothing was written.
     pub fn clear(&mut self) -> Result<(), JournalError>
-        ensures cleared { OnOk result ((entries : List (List ℕ)) → IsSettled D.seen D.may_leave self.old entries → IsSettled D.seen D.may_leave self.new []) }
+        ensures cleared { OnOk result ((entries : List (List ℕ)) → IsSettled D.seen D.may_leave self.old entries →
+            IsSettled D.seen D.may_leave self.new []) }
         ensures opened { OnOk result ((self.old.is_open ≡ true) × (self.new.is_open ≡ true)) }
         ensures unwritten { IfErr result (λ e. IsFalse (is_of_disk e) → self.new ≡ self.old) }
-        ensures failed { IfErr result (λ e. IsTrue (is_of_disk e) → (self.old.is_open ≡ true) × (self.new.is_open ≡ false) × MoreFaults (D.faults self.old.disk) (D.faults self.new.disk)) }
+        ensures failed { IfErr result (λ e. IsTrue (is_of_disk e) → (self.old.is_open ≡ true) ×
+            (self.new.is_open ≡ false) × MoreFaults (D.faults self.old.disk) (D.faults self.new.disk)) }
         ensures shut { result ≡ Err journal_error.Shut → IsShut D.is_usable self.old }
         ensures clean { D.is_clean self.new.disk ≡ D.is_clean self.old.disk }
         // Whatever the answer, a crash leaves the entries from before, or none.
-        ensures crash { (entries : List (List ℕ)) → IsSettled D.seen D.may_leave self.old entries → (c : List ℕ) → D.may_leave self.new.disk c → StandsFor c entries ⊎ StandsFor c [] }
-        ensures journal { Mixes D.is_mixing → (entries : List (List ℕ)) → IsSettled D.seen D.may_leave self.old entries → (c : List ℕ) → D.may_leave self.new.disk c → IsJournal c }
+        ensures crash { (entries : List (List ℕ)) → IsSettled D.seen D.may_leave self.old entries → (c : List ℕ) →
+            D.may_leave self.new.disk c → StandsFor c entries ⊎ StandsFor c [] }
+        ensures journal { Mixes D.is_mixing → (entries : List (List ℕ)) →
+            IsSettled D.seen D.may_leave self.old entries → (c : List ℕ) → D.may_leave self.new.disk c → IsJournal c }
     {
         if !self.is_ready() {
             return Err(JournalError::Shut);
@@ -150,25 +162,31 @@ impl<D: Disk> Journal<D> {
         }
     }
 
-    /// Puts a generation and entries in the place of all that the journal has: its first entry is then the number `generation` in eight
-    /// bytes, the highest first. Three syncs, two where it had no entries. With two files in turns this is how a journal is compacted:
-    /// the other file stays as it is until this one has all.
+    /// Puts a generation and entries in the place of all that the journal has: its first entry is then the number
+    /// `generation` in eight bytes, the highest first. Three syncs, two where it had no entries. With two files in
+    /// turns this is how a journal is compacted: the other file stays as it is until this one has all.
     ///
-    /// After `Disk` the file stands for the entries from before, for none, or for all of the new ones, and the journal takes no
-    /// entry any more; it has to be recovered from its file. After another error it has those from before, or none.
+    /// After `Disk` the file stands for the entries from before, for none, or for all of the new ones, and the journal
+    /// takes no entry any more; it has to be recovered from its file. After another error it has those from before, or
+    /// none.
     pub fn replace(
         &mut self,
         alloc: Global,
         generation: u64,
         entries: &[Vec<u8>],
     ) -> Result<(), JournalError>
-        ensures replaced { OnOk result ((before : List (List ℕ)) → IsSettled D.seen D.may_leave self.old before → IsSettled D.seen D.may_leave self.new (header generation ∷ contents entries.now)) }
+        ensures replaced { OnOk result ((before : List (List ℕ)) → IsSettled D.seen D.may_leave self.old before →
+            IsSettled D.seen D.may_leave self.new (header generation ∷ contents entries.now)) }
         ensures opened { OnOk result ((self.old.is_open ≡ true) × (self.new.is_open ≡ true)) }
-        ensures kept { OnErr result ((self.new.is_open ≡ false) ⊎ ((before : List (List ℕ)) → IsSettled D.seen D.may_leave self.old before → IsSettled D.seen D.may_leave self.new before ⊎ IsSettled D.seen D.may_leave self.new [])) }
+        ensures kept { OnErr result ((self.new.is_open ≡ false) ⊎
+            ((before : List (List ℕ)) → IsSettled D.seen D.may_leave self.old before →
+            IsSettled D.seen D.may_leave self.new before ⊎ IsSettled D.seen D.may_leave self.new [])) }
         ensures clean { D.is_clean self.new.disk ≡ D.is_clean self.old.disk }
         // Whatever the answer, a crash leaves the entries from before, or none, or all of the new ones.
-        ensures crash { (before : List (List ℕ)) → IsSettled D.seen D.may_leave self.old before → (c : List ℕ) → D.may_leave self.new.disk c → IsBeingReplaced before (header generation ∷ contents entries.now) c }
-        ensures journal { Mixes D.is_mixing → (before : List (List ℕ)) → IsSettled D.seen D.may_leave self.old before → (c : List ℕ) → D.may_leave self.new.disk c → IsJournal c }
+        ensures crash { (before : List (List ℕ)) → IsSettled D.seen D.may_leave self.old before → (c : List ℕ) →
+            D.may_leave self.new.disk c → IsBeingReplaced before (header generation ∷ contents entries.now) c }
+        ensures journal { Mixes D.is_mixing → (before : List (List ℕ)) → IsSettled D.seen D.may_leave self.old before →
+            (c : List ℕ) → D.may_leave self.new.disk c → IsJournal c }
     {
         self.clear()?;
         self.add(alloc, &generation.to_be_bytes(), entries)?;
@@ -177,7 +195,8 @@ impl<D: Disk> Journal<D> {
 
     /// Whether an entry could be written now.
     fn is_ready(&self) -> bool
-        ensures ready { IsTrue result → (self.now.is_open ≡ true) × (self.now.end < 2 ^ 60) × IsTrue (D.is_usable self.now.disk) }
+        ensures ready { IsTrue result → (self.now.is_open ≡ true) × (self.now.end < 2 ^ 60) ×
+            IsTrue (D.is_usable self.now.disk) }
         ensures shut { IsFalse result → IsShut D.is_usable self.now }
     {
         self.is_open && self.end < MAX_END && self.disk.may_be_used()
@@ -185,15 +204,19 @@ impl<D: Disk> Journal<D> {
 
     /// Adds these entries, all or none.
     fn add(&mut self, alloc: Global, first: &[u8], others: &[Vec<u8>]) -> Result<(), JournalError>
-        ensures acknowledged { OnOk result ((entries : List (List ℕ)) → IsSettled D.seen D.may_leave self.old entries → IsSettled D.seen D.may_leave self.new (entries ++ first.now ∷ contents others.now)) }
+        ensures acknowledged { OnOk result ((entries : List (List ℕ)) → IsSettled D.seen D.may_leave self.old entries →
+            IsSettled D.seen D.may_leave self.new (entries ++ first.now ∷ contents others.now)) }
         ensures opened { OnOk result ((self.old.is_open ≡ true) × (self.new.is_open ≡ true)) }
         ensures unwritten { IfErr result (λ e. IsFalse (is_of_disk e) → self.new ≡ self.old) }
-        ensures failed { IfErr result (λ e. IsTrue (is_of_disk e) → (self.old.is_open ≡ true) × (self.new.is_open ≡ false) × MoreFaults (D.faults self.old.disk) (D.faults self.new.disk)) }
+        ensures failed { IfErr result (λ e. IsTrue (is_of_disk e) → (self.old.is_open ≡ true) ×
+            (self.new.is_open ≡ false) × MoreFaults (D.faults self.old.disk) (D.faults self.new.disk)) }
         ensures shut { result ≡ Err journal_error.Shut → IsShut D.is_usable self.old }
         ensures too_long { result ≡ Err journal_error.TooLong → AreTooLong (first.now ∷ contents others.now) }
         ensures clean { D.is_clean self.new.disk ≡ D.is_clean self.old.disk }
-        ensures crash { (entries : List (List ℕ)) → IsSettled D.seen D.may_leave self.old entries → (c : List ℕ) → D.may_leave self.new.disk c → IsBeforeOrAfter entries (first.now ∷ contents others.now) c }
-        ensures journal { Mixes D.is_mixing → (entries : List (List ℕ)) → IsSettled D.seen D.may_leave self.old entries → (c : List ℕ) → D.may_leave self.new.disk c → IsJournal c }
+        ensures crash { (entries : List (List ℕ)) → IsSettled D.seen D.may_leave self.old entries → (c : List ℕ) →
+            D.may_leave self.new.disk c → IsBeforeOrAfter entries (first.now ∷ contents others.now) c }
+        ensures journal { Mixes D.is_mixing → (entries : List (List ℕ)) →
+            IsSettled D.seen D.may_leave self.old entries → (c : List ℕ) → D.may_leave self.new.disk c → IsJournal c }
     {
         if !self.is_ready() {
             return Err(JournalError::Shut);

@@ -42,8 +42,9 @@ fn first_entry(bytes: &[u8]) -> Option<(&[u8], &[u8])>
     Some((&bytes[5..5 + len], &bytes[5 + len..]))
 }
 
-/// Whether bytes are those of a journal's file, as it is at any moment of its life, a crash at any point included. A text is none, nor is a file of another
-/// program, unless it begins with a 0 or happens to begin with a whole entry; a file of one byte is taken for a journal of which no more was written.
+/// Whether bytes are those of a journal's file, as it is at any moment of its life, a crash at any point included. A
+/// text is none, nor is a file of another program, unless it begins with a 0 or happens to begin with a whole entry; a
+/// file of one byte is taken for a journal of which no more was written.
 pub fn is_journal(bytes: &[u8]) -> bool
     ensures { IsTrue result ↔ IsJournal bytes.now }
 {
@@ -66,8 +67,9 @@ pub(crate) fn read_frames(alloc: Global, bytes: &[u8]) -> Result<Recovered, Allo
     })
 }
 
-/// The entries of a journal in the bytes of its file, and where its gate stands. Unlike `recover` it needs no disk, and writes nothing, and
-/// it does not ask whether the file is a journal's: `is_journal` does. It takes memory for the entries.
+/// The entries of a journal in the bytes of its file, and where its gate stands. Unlike `recover` it needs no disk, and
+/// writes nothing, and it does not ask whether the file is a journal's: `is_journal` does. It takes memory for the
+/// entries.
 pub fn read_entries(alloc: Global, bytes: &[u8]) -> Result<Recovered, AllocError>
     ensures stands { IfOk result (λ found. StandsFor bytes.now (contents found.entries.items)) }
     ensures split { IfOk result (λ found. IsSplit bytes.now (contents found.entries.items) found.end) }

@@ -35,9 +35,11 @@ fn read_all<D: Disk>(alloc: Global, disk: &mut D) -> Result<Vec<u8>, RecoverErro
     Ok(bytes)
 }
 
-/// Whether a gate stands at a place that is closed. Where it is all that the file has, a crash may have torn it, so that it has to be 0.
+/// Whether a gate stands at a place that is closed. Where it is all that the file has, a crash may have torn it, so
+/// that it has to be 0.
 fn is_closed(bytes: &[u8], end: usize) -> bool
-    ensures closed { IsTrue result → (end < length bytes.now) × (slice_index bytes.now end ≢ 1) × ((1 < length bytes.now) ⊎ (slice_index bytes.now 0 ≡ 0)) }
+    ensures closed { IsTrue result → (end < length bytes.now) × (slice_index bytes.now end ≢ 1) ×
+        ((1 < length bytes.now) ⊎ (slice_index bytes.now 0 ≡ 0)) }
     ensures open { IsFalse result → end < length bytes.now → (slice_index bytes.now end ≡ 1) ⊎ (length bytes.now ≤ 1) }
 {
     end < bytes.len() && bytes[end] != 1 && (bytes.len() > 1 || bytes[0] == 0)
@@ -46,10 +48,15 @@ fn is_closed(bytes: &[u8], end: usize) -> bool
 /// Sees that a closed gate stands behind the frames.
 fn close<D: Disk>(disk: &mut D, bytes: &[u8], end: usize) -> io::Result<()>
     requires usable { IsTrue (D.is_usable disk.old) }
-    ensures settled { OnOk result ((entries : List (List ℕ)) → IsJournal bytes.now → IsSplit bytes.now entries end → D.seen disk.old ≡ bytes.now → Only (D.seen disk.old) (D.may_leave disk.old) → IsAtRest D.seen D.may_leave disk.new end entries) }
+    ensures settled { OnOk result ((entries : List (List ℕ)) → IsJournal bytes.now → IsSplit bytes.now entries end →
+        D.seen disk.old ≡ bytes.now → Only (D.seen disk.old) (D.may_leave disk.old) →
+        IsAtRest D.seen D.may_leave disk.new end entries) }
     ensures clean { D.is_clean disk.new ≡ D.is_clean disk.old }
-    ensures crash { (entries : List (List ℕ)) → IsSplit bytes.now entries end → D.seen disk.old ≡ bytes.now → Only (D.seen disk.old) (D.may_leave disk.old) → (c : List ℕ) → D.may_leave disk.new c → StandsFor c entries }
-    ensures journal { (entries : List (List ℕ)) → IsJournal bytes.now → IsSplit bytes.now entries end → D.seen disk.old ≡ bytes.now → Only (D.seen disk.old) (D.may_leave disk.old) → (c : List ℕ) → D.may_leave disk.new c → IsJournal c }
+    ensures crash { (entries : List (List ℕ)) → IsSplit bytes.now entries end → D.seen disk.old ≡ bytes.now →
+        Only (D.seen disk.old) (D.may_leave disk.old) → (c : List ℕ) → D.may_leave disk.new c → StandsFor c entries }
+    ensures journal { (entries : List (List ℕ)) → IsJournal bytes.now → IsSplit bytes.now entries end →
+        D.seen disk.old ≡ bytes.now → Only (D.seen disk.old) (D.may_leave disk.old) → (c : List ℕ) →
+        D.may_leave disk.new c → IsJournal c }
 {
     if is_closed(bytes, end) {
         return Ok(());
@@ -58,12 +65,12 @@ fn close<D: Disk>(disk: &mut D, bytes: &[u8], end: usize) -> io::Result<()>
     Ok(())
 }
 
-/// Reads the entries of a file that a crash may have left, and sees that its gate is closed: `Journal::new` makes a journal of
-/// the file and the place. An empty file has no entries. It may crash too. It takes memory for the whole file twice, and writes
-/// at most one byte, with one sync.
+/// Reads the entries of a file that a crash may have left, and sees that its gate is closed: `Journal::new` makes a
+/// journal of the file and the place. An empty file has no entries. It may crash too. It takes memory for the whole
+/// file twice, and writes at most one byte, with one sync.
 ///
-/// A file that is no journal's is refused, and stays as it is. None that a journal was in is: not where a crash leaves each byte of a torn write
-/// old or new, as `sqlite_std_file::Unknown` supposes.
+/// A file that is no journal's is refused, and stays as it is. None that a journal was in is: not where a crash leaves
+/// each byte of a torn write old or new, as `sqlite_std_file::Unknown` supposes.
 pub fn recover<D: Disk>(alloc: Global, disk: &mut D) -> Result<Recovered, RecoverError>
     requires usable { IsTrue (D.is_usable disk.old) }
     // After a restart, what is read is what is on the disk.
@@ -71,7 +78,8 @@ pub fn recover<D: Disk>(alloc: Global, disk: &mut D) -> Result<Recovered, Recove
     ensures recovers { Recovers D.seen D.may_leave D.is_clean disk.old result disk.new }
 
     // What is no journal's file is refused, and left alone; a journal's file never is.
-    ensures refused { IfErr result (λ e. IsTrue (is_refusal e) → IsTrue (D.is_clean disk.new) → IsJournal (D.seen disk.old) → ⊥) }
+    ensures refused { IfErr result (λ e. IsTrue (is_refusal e) → IsTrue (D.is_clean disk.new) →
+        IsJournal (D.seen disk.old) → ⊥) }
     ensures unwritten { IfErr result (λ e. IsTrue (is_refusal e) → IsLeftAlone D.seen D.may_leave disk.old disk.new) }
 {
     let bytes = read_all(alloc, disk)?;

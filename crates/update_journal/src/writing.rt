@@ -70,7 +70,8 @@ pub(crate) fn put<D: Disk>(disk: &mut D, at: usize, bytes: &[u8]) -> io::Result<
     ensures clean { D.is_clean disk.new ≡ D.is_clean disk.old }
     ensures faults { CountsFault result (D.faults disk.old) (D.faults disk.new) }
     ensures crash { Follows (Torn at (length bytes.now)) (D.may_leave disk.old) (D.may_leave disk.new) }
-    ensures mixed { IsTrue (D.is_mixing disk.old) → at + length bytes.now < 2 ^ 64 → Follows (Mixed at bytes.now) (D.may_leave disk.old) (D.may_leave disk.new) }
+    ensures mixed { IsTrue (D.is_mixing disk.old) → at + length bytes.now < 2 ^ 64 →
+        Follows (Mixed at bytes.now) (D.may_leave disk.old) (D.may_leave disk.new) }
 {
     disk.write_at(at, bytes)?;
     disk.sync()?;
@@ -81,13 +82,17 @@ pub(crate) fn put<D: Disk>(disk: &mut D, at: usize, bytes: &[u8]) -> io::Result<
 fn stage<D: Disk>(disk: &mut D, end: usize, bytes: &[u8]) -> io::Result<()>
     requires usable { IsTrue (D.is_usable disk.old) }
     requires place { end < 2 ^ 60 }
-    ensures staged { OnOk result ((entries : List (List ℕ)) (first : List ℕ) (others : List (List ℕ)) → IsAtRest D.seen D.may_leave disk.old end entries → bytes.now ≡ behind_gate first others → IsStaged D.seen D.may_leave disk.new end entries first others) }
+    ensures staged { OnOk result ((entries : List (List ℕ)) (first : List ℕ) (others : List (List ℕ)) →
+        IsAtRest D.seen D.may_leave disk.old end entries → bytes.now ≡ behind_gate first others →
+        IsStaged D.seen D.may_leave disk.new end entries first others) }
     ensures usable { OnOk result (IsTrue (D.is_usable disk.new)) }
     ensures clean { D.is_clean disk.new ≡ D.is_clean disk.old }
     ensures faults { CountsFault result (D.faults disk.old) (D.faults disk.new) }
     // A crash leaves what was there before.
-    ensures crash { (entries : List (List ℕ)) → IsAtRest D.seen D.may_leave disk.old end entries → (c : List ℕ) → D.may_leave disk.new c → StandsFor c entries }
-    ensures journal { (entries : List (List ℕ)) → IsAtRest D.seen D.may_leave disk.old end entries → (c : List ℕ) → D.may_leave disk.new c → IsJournal c }
+    ensures crash { (entries : List (List ℕ)) → IsAtRest D.seen D.may_leave disk.old end entries → (c : List ℕ) →
+        D.may_leave disk.new c → StandsFor c entries }
+    ensures journal { (entries : List (List ℕ)) → IsAtRest D.seen D.may_leave disk.old end entries → (c : List ℕ) →
+        D.may_leave disk.new c → IsJournal c }
 {
     put(disk, end + 1, bytes)?;
     Ok(())
@@ -97,12 +102,18 @@ fn stage<D: Disk>(disk: &mut D, end: usize, bytes: &[u8]) -> io::Result<()>
 fn open_gate<D: Disk>(disk: &mut D, end: usize) -> io::Result<()>
     requires usable { IsTrue (D.is_usable disk.old) }
     requires place { end < 2 ^ 60 }
-    ensures opened { OnOk result ((entries : List (List ℕ)) (first : List ℕ) (others : List (List ℕ)) → IsStaged D.seen D.may_leave disk.old end entries first others → IsOpened D.seen D.may_leave disk.new entries first others) }
+    ensures opened { OnOk result ((entries : List (List ℕ)) (first : List ℕ) (others : List (List ℕ)) →
+        IsStaged D.seen D.may_leave disk.old end entries first others →
+        IsOpened D.seen D.may_leave disk.new entries first others) }
     ensures clean { D.is_clean disk.new ≡ D.is_clean disk.old }
     ensures faults { CountsFault result (D.faults disk.old) (D.faults disk.new) }
     // A crash leaves what was there before, with these entries or without.
-    ensures crash { (entries : List (List ℕ)) (first : List ℕ) (others : List (List ℕ)) → AreSmall (first ∷ others) → IsStaged D.seen D.may_leave disk.old end entries first others → (c : List ℕ) → D.may_leave disk.new c → IsBeforeOrAfter entries (first ∷ others) c }
-    ensures journal { Mixes D.is_mixing → (entries : List (List ℕ)) (first : List ℕ) (others : List (List ℕ)) → AreSmall (first ∷ others) → IsStaged D.seen D.may_leave disk.old end entries first others → (c : List ℕ) → D.may_leave disk.new c → IsJournal c }
+    ensures crash { (entries : List (List ℕ)) (first : List ℕ) (others : List (List ℕ)) → AreSmall (first ∷ others) →
+        IsStaged D.seen D.may_leave disk.old end entries first others → (c : List ℕ) → D.may_leave disk.new c →
+        IsBeforeOrAfter entries (first ∷ others) c }
+    ensures journal { Mixes D.is_mixing → (entries : List (List ℕ)) (first : List ℕ) (others : List (List ℕ)) →
+        AreSmall (first ∷ others) → IsStaged D.seen D.may_leave disk.old end entries first others → (c : List ℕ) →
+        D.may_leave disk.new c → IsJournal c }
 {
     put(disk, end, &[1])?;
     Ok(())
@@ -112,11 +123,17 @@ fn open_gate<D: Disk>(disk: &mut D, end: usize) -> io::Result<()>
 pub(crate) fn write<D: Disk>(disk: &mut D, end: usize, bytes: &[u8]) -> io::Result<()>
     requires usable { IsTrue (D.is_usable disk.old) }
     requires place { end < 2 ^ 60 }
-    ensures opened { OnOk result ((entries : List (List ℕ)) (first : List ℕ) (others : List (List ℕ)) → IsAtRest D.seen D.may_leave disk.old end entries → bytes.now ≡ behind_gate first others → IsOpened D.seen D.may_leave disk.new entries first others) }
+    ensures opened { OnOk result ((entries : List (List ℕ)) (first : List ℕ) (others : List (List ℕ)) →
+        IsAtRest D.seen D.may_leave disk.old end entries → bytes.now ≡ behind_gate first others →
+        IsOpened D.seen D.may_leave disk.new entries first others) }
     ensures clean { D.is_clean disk.new ≡ D.is_clean disk.old }
     ensures faults { CountsFault result (D.faults disk.old) (D.faults disk.new) }
-    ensures crash { (entries : List (List ℕ)) (first : List ℕ) (others : List (List ℕ)) → AreSmall (first ∷ others) → IsAtRest D.seen D.may_leave disk.old end entries → bytes.now ≡ behind_gate first others → (c : List ℕ) → D.may_leave disk.new c → IsBeforeOrAfter entries (first ∷ others) c }
-    ensures journal { Mixes D.is_mixing → (entries : List (List ℕ)) (first : List ℕ) (others : List (List ℕ)) → AreSmall (first ∷ others) → IsAtRest D.seen D.may_leave disk.old end entries → bytes.now ≡ behind_gate first others → (c : List ℕ) → D.may_leave disk.new c → IsJournal c }
+    ensures crash { (entries : List (List ℕ)) (first : List ℕ) (others : List (List ℕ)) → AreSmall (first ∷ others) →
+        IsAtRest D.seen D.may_leave disk.old end entries → bytes.now ≡ behind_gate first others → (c : List ℕ) →
+        D.may_leave disk.new c → IsBeforeOrAfter entries (first ∷ others) c }
+    ensures journal { Mixes D.is_mixing → (entries : List (List ℕ)) (first : List ℕ) (others : List (List ℕ)) →
+        AreSmall (first ∷ others) → IsAtRest D.seen D.may_leave disk.old end entries →
+        bytes.now ≡ behind_gate first others → (c : List ℕ) → D.may_leave disk.new c → IsJournal c }
 {
     stage(disk, end, bytes)?;
     open_gate(disk, end)?;
@@ -126,12 +143,16 @@ pub(crate) fn write<D: Disk>(disk: &mut D, end: usize, bytes: &[u8]) -> io::Resu
 /// Closes the first gate of a file that has entries.
 pub(crate) fn close_first<D: Disk>(disk: &mut D) -> io::Result<()>
     requires usable { IsTrue (D.is_usable disk.old) }
-    ensures cleared { OnOk result ((end : ℕ) (entries : List (List ℕ)) → IsAtRest D.seen D.may_leave disk.old end entries → 0 < end → IsAtRest D.seen D.may_leave disk.new 0 []) }
+    ensures cleared { OnOk result ((end : ℕ) (entries : List (List ℕ)) →
+        IsAtRest D.seen D.may_leave disk.old end entries → 0 < end → IsAtRest D.seen D.may_leave disk.new 0 []) }
     ensures clean { D.is_clean disk.new ≡ D.is_clean disk.old }
     ensures faults { CountsFault result (D.faults disk.old) (D.faults disk.new) }
     // A crash leaves what was there before, or nothing.
-    ensures crash { (end : ℕ) (entries : List (List ℕ)) → IsAtRest D.seen D.may_leave disk.old end entries → 0 < end → (c : List ℕ) → D.may_leave disk.new c → StandsFor c entries ⊎ StandsFor c [] }
-    ensures journal { Mixes D.is_mixing → (end : ℕ) (entries : List (List ℕ)) → IsAtRest D.seen D.may_leave disk.old end entries → 0 < end → (c : List ℕ) → D.may_leave disk.new c → IsJournal c }
+    ensures crash { (end : ℕ) (entries : List (List ℕ)) → IsAtRest D.seen D.may_leave disk.old end entries → 0 < end →
+        (c : List ℕ) → D.may_leave disk.new c → StandsFor c entries ⊎ StandsFor c [] }
+    ensures journal { Mixes D.is_mixing → (end : ℕ) (entries : List (List ℕ)) →
+        IsAtRest D.seen D.may_leave disk.old end entries → 0 < end → (c : List ℕ) → D.may_leave disk.new c →
+        IsJournal c }
 {
     put(disk, 0, &[0])?;
     Ok(())

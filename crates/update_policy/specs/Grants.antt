@@ -1,6 +1,7 @@
 -- Which records of a zone may be updated under which key, by the rules of a policy.
 use Rattle.std.specs.Prelude.{ℕ, Bool, IsTrue, not, ◌||◌, ◌&&◌, ◌==◌, ◌⊎◌, List, [], ◌∷◌}
 use Rattle.std.specs.List.{AllByRecursion, list_any}
+use Rattle.wire_messages.specs.Numbers.{type_any, type_ns, type_nsec, type_nsec3, type_rrsig, type_soa}
 use Rattle.wire_names.specs.rr.domain.DomainName.{DomainName}
 use Rattle.wire_names.specs.rr.domain.NameOrder.{Encloses, name_eq}
 use Rattle.wire_messages.specs.rr.RecordData.{type_of}
@@ -17,14 +18,14 @@ IsInScope (Subdomain base) key name = Encloses base.labels name.labels
 IsInScope (OneName base) key name = IsTrue (name_eq base name)
 IsInScope OwnName key name = IsTrue (name_eq key name)
 
--- The types that a rule without types is for: all but RRSIG, 46, NS, 2, SOA, 6, NSEC, 47, and NSEC3, 50; and but ANY, 255, by which an update deletes all
--- sets of a name at once (RFC 2136 section 2.5.3).
+-- The types that a rule without types is for: all but RRSIG, NS, SOA, NSEC and NSEC3; and but ANY, by which an update
+-- deletes all sets of a name at once (RFC 2136 section 2.5.3).
 abbrev pub is_ordinary : ℕ → Bool
-is_ordinary kind = not (kind == 46 || kind == 2 || kind == 6 || kind == 47 || kind == 50 || kind == 255)
+is_ordinary kind = not (kind == type_rrsig || kind == type_ns || kind == type_soa || kind == type_nsec || kind == type_nsec3 || kind == type_any)
 
 -- A listed type is for itself, and ANY for every type but NSEC and NSEC3.
 abbrev pub is_listed : ℕ → ℕ → Bool
-is_listed kind listed = listed == kind || (listed == 255 && not (kind == 47 || kind == 50))
+is_listed kind listed = listed == kind || (listed == type_any && not (kind == type_nsec || kind == type_nsec3))
 
 -- the types that a rule is for
 abbrev pub is_of_types : List ℕ → ℕ → Bool

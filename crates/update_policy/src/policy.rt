@@ -186,7 +186,8 @@ impl Policy {
         false
     }
 
-    /// Whether all records of an update section (RFC 2136 section 2.5) may be updated under this key: exactly where each of them may.
+    /// Whether all records of an update section (RFC 2136 section 2.5) may be updated under this key: exactly where
+    /// each of them may.
     pub fn grants_all(&self, key: &Name, zone: &Name, records: &[Record<RData>]) -> bool
         ensures { IsTrue result ↔ AreGranted self.now key.now zone.now records.now }
     {

@@ -14,7 +14,8 @@ use wire_names::values::items::Items;
 /// Why a text is no rule.
 #[derive(Clone, Copy, Debug, PartialEq, Eq, Error)]
 pub enum RuleTextError {
-    /// It does not begin with `allow-update` and the name of a key, or the name behind `subdomain` or `name` is missing.
+    /// It does not begin with `allow-update` and the name of a key, or the name behind `subdomain` or `name` is
+    /// missing.
     #[error("not allow-update KEY [zone|subdomain NAME|name NAME|self] [TYPE..]")]
     Form,
     /// The name of the key or of the scope is none.
@@ -67,7 +68,8 @@ fn read_scope<'w, 't>(
     alloc: Global,
     words: &'w [&'t str],
 ) -> Result<(Scope, &'w [&'t str]), RuleTextError>
-    ensures { IfOk result (λ read. IsScope (map (λ word. word.now) words.now) read.0 (map (λ word. word.now) read.1.now)) }
+    ensures { IfOk result (λ read. IsScope (map (λ word. word.now) words.now) read.0
+        (map (λ word. word.now) read.1.now)) }
 {
     match words {
         ["zone", types @ ..] => Ok((Scope::Zone, types)),
@@ -99,8 +101,9 @@ fn words_of<'t>(alloc: Global, text: &'t str) -> Result<Vec<&'t str>, AllocError
     text.split_whitespace().collect(alloc)
 }
 
-/// The rule of a text `allow-update KEY [zone|subdomain NAME|name NAME|self] [TYPE..]`, with blanks between the words. Types are mnemonics in any
-/// letter case, or `TYPE` and a number. Names are fully qualified, whether or not they end in a dot.
+/// The rule of a text `allow-update KEY [zone|subdomain NAME|name NAME|self] [TYPE..]`, with blanks between the words.
+/// Types are mnemonics in any letter case, or `TYPE` and a number. Names are fully qualified, whether or not they end
+/// in a dot.
 pub fn read_rule(alloc: Global, text: &str) -> Result<Rule, RuleTextError>
     ensures { IfOk result (IsRuleLine text.now) }
 {

@@ -1,3 +1,4 @@
+pub mod Numbers
 pub mod op
 pub mod rr
 pub mod serialize

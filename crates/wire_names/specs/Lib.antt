@@ -1,3 +1,4 @@
+pub mod representation
 pub mod rr
 pub mod serialize
 pub mod text

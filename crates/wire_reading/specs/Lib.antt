@@ -1,1 +1,2 @@
+pub mod representation
 pub mod serialize

@@ -15,7 +15,7 @@ use Rattle.wire_messages.specs.declared.rr.record.Record.{Record}
 use Rattle.wire_messages.specs.declared.rr.rr_key.RrKey.{RrKey}
 use Rattle.wire_names.proofs.lemmas.rr.domain.SameNames.{eq_from_same, lower_same}
 use Rattle.wire_names.specs.rr.domain.DomainName.{DomainName}
-use Rattle.wire_names.specs.rr.domain.NameHash.{same_from_eq}
+use Rattle.wire_names.specs.representation.NameHash.{same_from_eq}
 use Rattle.wire_names.specs.rr.domain.NameOrder.{SameName, lower_name, name_eq}
 use Rattle.zone_check.specs.CheckedZones.{Records, is_of}
 use Rattle.zone_check.specs.Findings.{IsRepeated}

@@ -12,7 +12,8 @@ use Rattle.wire_messages.specs.declared.rr.record.Record.{Record}
 abbrev pub Records : Type 0
 Records = List (Record RData)
 
--- The zone: the name of its apex, its records as the file has them, and the serial that the one before it has, if that is given.
+-- The zone: the name of its apex, its records as the file has them, and the serial that the one before it has, if that
+-- is given.
 pub record CheckedZone : Type 0 where
   pub origin : DomainName
   pub records : Records
@@ -22,7 +23,8 @@ pub record CheckedZone : Type 0 where
 abbrev pub checked_zone : DomainName → Records → Option ℕ → CheckedZone
 checked_zone origin records previous = record { origin = record origin { is_fqdn = true }; records = records; previous = previous }
 
--- Types by their numbers (RFC 1035 section 3.2.2, RFC 2535 section 3, RFC 2782, RFC 3596 section 2.1, RFC 6672 section 2.1, RFC 4034, RFC 5155 section 4).
+-- Types by their numbers (RFC 1035 section 3.2.2, RFC 2535 section 3, RFC 2782, RFC 3596 section 2.1, RFC 6672 section
+-- 2.1, RFC 4034, RFC 5155 section 4).
 abbrev pub type_a : ℕ
 type_a = 1
 
@@ -75,8 +77,8 @@ Owns zone name t = IsSome (first_of zone name t)
 abbrev pub OwnsAddress : CheckedZone → DomainName → Type 0
 OwnsAddress zone name = Owns zone name type_a ⊎ Owns zone name type_aaaa
 
--- whether records of the type may not stand beside a CNAME: of all but itself and those of DNSSEC (RFC 1034 section 3.6.2, RFC 2181 section 10.1, RFC 3007 section 1.1, RFC 4035
--- section 2.5)
+-- whether records of the type may not stand beside a CNAME: of all but itself and those of DNSSEC (RFC 1034 section
+-- 3.6.2, RFC 2181 section 10.1, RFC 3007 section 1.1, RFC 4035 section 2.5)
 abbrev pub is_data_type : ℕ → Bool
 is_data_type t = not (t == type_cname || t == type_key || t == type_rrsig || t == type_nsec)
 
@@ -160,7 +162,8 @@ pub record IsBelowDname (zone : CheckedZone) (name : DomainName) : Type 0 where
   pub is_ancestor : count ≤ length name.labels
   pub dname : IsDnameOwner zone (ancestor name count)
 
--- Below a name above the name there is a wildcard with an address (RFC 4592 section 2.1.1), from which the name may be given one.
+-- Below a name above the name there is a wildcard with an address (RFC 4592 section 2.1.1), from which the name may be
+-- given one.
 pub record IsBelowWildcard (zone : CheckedZone) (name : DomainName) : Type 0 where
   pub count : ℕ
   pub above : 0 < count

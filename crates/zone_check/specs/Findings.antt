@@ -35,7 +35,8 @@ pub record IsSoaBelowApex (zone : CheckedZone) (r : Record RData) : Type 0 where
   pub typed : type_of r.rdata ≡ type_soa
   pub below : IsBelowApex zone r.name
 
--- a type of which a name owns one record: SOA (RFC 1035 section 5.2), CNAME (RFC 2181 section 10.1), DNAME (RFC 6672 section 2.4)
+-- a type of which a name owns one record: SOA (RFC 1035 section 5.2), CNAME (RFC 2181 section 10.1), DNAME (RFC 6672
+-- section 2.4)
 abbrev pub IsSingle : ℕ → Type 0
 IsSingle t = (t ≡ type_soa) ⊎ (t ≡ type_cname) ⊎ (t ≡ type_dname)
 
@@ -56,7 +57,8 @@ pub record IsRepeated (records : Records) (place : ℕ) (r : Record RData) : Typ
   pub there : slice_get records before ≡ Some other
   pub same : SameRecord other r
 
--- A CNAME stands beside other data (RFC 1034 section 3.6.2, RFC 2181 section 10.1), a DNAME among them (RFC 6672 section 2.4).
+-- A CNAME stands beside other data (RFC 1034 section 3.6.2, RFC 2181 section 10.1), a DNAME among them (RFC 6672
+-- section 2.4).
 pub record IsCnameBesideData (zone : CheckedZone) (r : Record RData) : Type 0 where
   pub typed : type_of r.rdata ≡ type_cname
   pub beside : OwnsData zone r.name
@@ -71,7 +73,8 @@ pub record IsDataBelowCut (zone : CheckedZone) (r : Record RData) : Type 0 where
   pub not_aaaa : ¬ (type_of r.rdata ≡ type_aaaa)
   pub below : IsBelowCut zone r.name
 
--- whether records of the type may stand at a cut: the name servers, what DNSSEC has there (RFC 4035 sections 2.3 and 2.4), and addresses, which may be glue
+-- whether records of the type may stand at a cut: the name servers, what DNSSEC has there (RFC 4035 sections 2.3 and
+-- 2.4), and addresses, which may be glue
 abbrev pub is_cut_type : ℕ → Bool
 is_cut_type t = t == type_ns || t == type_ds || t == type_rrsig || t == type_nsec || t == type_a || t == type_aaaa
 
@@ -113,8 +116,8 @@ pub record IsOwn (zone : CheckedZone) (name : DomainName) : Type 0 where
   pub uncut : ¬ (IsCut zone name)
   pub not_below : ¬ (IsBelowCut zone name)
 
--- The zone itself has to have the host's addresses, and has none, nor an alias, nor a wildcard that may give it one (RFC 1035 section 3.3.9, RFC 1912 section 2.8,
--- RFC 2782).
+-- The zone itself has to have the host's addresses, and has none, nor an alias, nor a wildcard that may give it one
+-- (RFC 1035 section 3.3.9, RFC 1912 section 2.8, RFC 2782).
 pub record IsWithoutAddress (zone : CheckedZone) (host : DomainName) : Type 0 where
   pub own : IsOwn zone host
   pub no_address : ¬ (OwnsAddress zone host)
@@ -126,7 +129,8 @@ pub record IsAliased (zone : CheckedZone) (host : DomainName) : Type 0 where
   pub own : IsOwn zone host
   pub alias : Owns zone host type_cname
 
--- An NS record at a cut names a host at the cut or below it, whose address is needed as glue (RFC 1034 section 4.2.1, RFC 9471 section 2.1).
+-- An NS record at a cut names a host at the cut or below it, whose address is needed as glue (RFC 1034 section 4.2.1,
+-- RFC 9471 section 2.1).
 pub record IsServerBelow (zone : CheckedZone) (r : Record RData) (host : DomainName) : Type 0 where
   pub typed : type_of r.rdata ≡ type_ns
   pub cut : IsCut zone r.name
@@ -137,7 +141,8 @@ pub record LacksGlue (zone : CheckedZone) (r : Record RData) (host : DomainName)
   pub server : IsServerBelow zone r host
   pub no_address : ¬ (OwnsAddress zone host)
 
--- An address at a cut or below it is there for name servers alone, as glue, and no NS record of the zone names its owner (RFC 1034 section 4.2.1).
+-- An address at a cut or below it is there for name servers alone, as glue, and no NS record of the zone names its
+-- owner (RFC 1034 section 4.2.1).
 pub record IsIdleGlue (zone : CheckedZone) (r : Record RData) : Type 0 where
   pub address : (type_of r.rdata ≡ type_a) ⊎ (type_of r.rdata ≡ type_aaaa)
   pub cut : IsCut zone r.name ⊎ IsBelowCut zone r.name
@@ -204,10 +209,17 @@ covered_of other = None
 abbrev pub CoversNothing : CheckedZone → Record RData → Type 0
 CoversNothing zone r = MatchOption (covered_of r.rdata) ⊥ (λ t. ¬ (Owns zone r.name t))
 
+-- What is found of an SOA record, by kind.
+abbrev pub IsFoundOfSoa : Kind → CheckedZone → RData → Type 0
+IsFoundOfSoa kind.SerialNotAbove zone content = OfSoa (IsNotAbove zone) content
+IsFoundOfSoa kind.Refresh zone content = OfSoa HasOddRefresh content
+IsFoundOfSoa kind.Retry zone content = OfSoa HasOddRetry content
+IsFoundOfSoa kind.Expire zone content = OfSoa HasOddExpire content
+IsFoundOfSoa kind.Minimum zone content = OfSoa HasOddMinimum content
+IsFoundOfSoa other zone content = ⊥
+
 -- What is found of the record at a place, by kind.
 abbrev pub IsFoundOf : Kind → CheckedZone → ℕ → Record RData → Type 0
-IsFoundOf kind.NoSoa zone place r = ⊥
-IsFoundOf kind.NoServers zone place r = ⊥
 IsFoundOf kind.Outside zone place r = IsOutside zone r
 IsFoundOf kind.SoaBelowApex zone place r = IsSoaBelowApex zone r
 IsFoundOf kind.Second zone place r = IsSecond zone r
@@ -221,14 +233,10 @@ IsFoundOf kind.NoAddress zone place r = OfHost (IsWithoutAddress zone) r.rdata
 IsFoundOf kind.NoGlue zone place r = OfHost (LacksGlue zone r) r.rdata
 IsFoundOf kind.IdleGlue zone place r = IsIdleGlue zone r
 IsFoundOf kind.HostIsAlias zone place r = OfHost (IsAliased zone) r.rdata
-IsFoundOf kind.SerialNotAbove zone place r = OfSoa (IsNotAbove zone) r.rdata
-IsFoundOf kind.Refresh zone place r = OfSoa HasOddRefresh r.rdata
-IsFoundOf kind.Retry zone place r = OfSoa HasOddRetry r.rdata
-IsFoundOf kind.Expire zone place r = OfSoa HasOddExpire r.rdata
-IsFoundOf kind.Minimum zone place r = OfSoa HasOddMinimum r.rdata
 IsFoundOf kind.DsAtApex zone place r = IsDsAtApex zone r
 IsFoundOf kind.Nsec3paramBelowApex zone place r = IsNsec3paramBelowApex zone r
 IsFoundOf kind.CoversNothing zone place r = CoversNothing zone r
+IsFoundOf other zone place r = IsFoundOfSoa other zone r.rdata
 
 -- What is found of the zone as a whole, by kind.
 abbrev pub IsFoundOfZone : Kind → CheckedZone → Type 0

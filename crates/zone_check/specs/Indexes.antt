@@ -1,4 +1,5 @@
--- How records are found without a walk over all of them: by maps from what they are found by to the place of the first such record.
+-- How records are found without a walk over all of them: by maps from what they are found by to the place of the first
+-- such record.
 use Rattle.std.specs.Prelude.{◌≡◌, ◌<◌, ℕ, zero, suc, Bool, false, List, Option, Some, None, cond, length}
 use Rattle.std.specs.List.{find, slice_get}
 use Rattle.std.specs.Option.{option_map_or}
@@ -25,7 +26,8 @@ HasFirsts records last firsts = (q : RrKey) → Points records last (is_of q.nam
 abbrev pub HasData : Records → Records → BTreeMap DomainName ℕ → Type 0
 HasData records last others = (q : DomainName) → Points records last (is_data_of q) (get name_cmp others q)
 
--- The map has for each name the place of the first of the last records that is an address of the wildcard right below the name.
+-- The map has for each name the place of the first of the last records that is an address of the wildcard right below
+-- the name.
 abbrev pub HasWilds : Records → Records → BTreeMap DomainName ℕ → Type 0
 HasWilds records last wilds = (q : DomainName) → Points records last (is_wild_address_of q) (get name_cmp wilds q)
 

@@ -26,8 +26,8 @@ pub enum Kind {
     /// An SOA record stands below the apex (RFC 1035 section 5.2).
     #[error("an SOA record below the apex")]
     SoaBelowApex,
-    /// The name has another record of a type of which it may have one: SOA, CNAME or DNAME (RFC 1035 section 5.2, RFC 2181 section
-    /// 10.1, RFC 6672 section 2.4).
+    /// The name has another record of a type of which it may have one: SOA, CNAME or DNAME (RFC 1035 section 5.2, RFC
+    /// 2181 section 10.1, RFC 6672 section 2.4).
     #[error("another record of a type of which a name has one")]
     Second,
     /// A record before it is the same, its TTL aside (RFC 2181 section 5).
@@ -69,7 +69,8 @@ pub enum Kind {
     /// The retry time of the SOA is not below the refresh time (RFC 1912 section 2.2).
     #[error("the retry time is not below the refresh time")]
     Retry,
-    /// The expire time of the SOA is not above refresh and retry times together, or not from 2 to 4 weeks (RFC 1912 section 2.2).
+    /// The expire time of the SOA is not above refresh and retry times together, or not from 2 to 4 weeks (RFC 1912
+    /// section 2.2).
     #[error("the expire time is not from 2 to 4 weeks, or not above refresh and retry times together")]
     Expire,
     /// The last field of the SOA, how long a denial is kept, is above one day (RFC 2308 section 5).

@@ -24,7 +24,8 @@ use wire_names::rr::domain::name::Name;
 
 /// The key of a record.
 fn key_of(alloc: Global, record: &Record) -> Result<RrKey, AllocError>
-    ensures { IfOk result (λ key. key ≡ record { name = lower_name «record».now.name; record_type = type_of «record».now.rdata }) }
+    ensures { IfOk result (λ key. key ≡ record
+        { name = lower_name «record».now.name; record_type = type_of «record».now.rdata }) }
 {
     let name = LowerName::new(alloc, &record.name)?;
     Ok(RrKey::new(name, record.rdata.record_type()))
@@ -76,7 +77,8 @@ fn are_same(record: &Record, other: &Record) -> bool
 fn are_same_at(records: &[Record], one: usize, other: usize) -> bool
     requires one { one < length records.now }
     requires other { other < length records.now }
-    ensures { (q r : RecordOf RecordData) → slice_get records.now one ≡ Some q → slice_get records.now other ≡ Some r → (IsTrue result ↔ SameRecord q r) }
+    ensures { (q r : RecordOf RecordData) → slice_get records.now one ≡ Some q → slice_get records.now other ≡ Some r →
+        (IsTrue result ↔ SameRecord q r) }
 {
     are_same(&records[one], &records[other])
 }
@@ -85,7 +87,8 @@ fn are_same_at(records: &[Record], one: usize, other: usize) -> bool
 pub(crate) fn stands_before(records: &[Record], earlier: &[Option<usize>], place: usize) -> bool
     requires within { place < length records.now }
     requires earlier { HasEarlier records.now earlier.now }
-    ensures { (r : RecordOf RecordData) → slice_get records.now place ≡ Some r → (IsTrue result ↔ IsRepeated records.now place r) }
+    ensures { (r : RecordOf RecordData) → slice_get records.now place ≡ Some r →
+        (IsTrue result ↔ IsRepeated records.now place r) }
 {
     let mut at = place;
     'earlier: while let Some(before) = earlier[at] {
@@ -97,7 +100,8 @@ pub(crate) fn stands_before(records: &[Record], earlier: &[Option<usize>], place
     false
 }
 
-/// Whether records of the type may not stand beside a CNAME (RFC 1034 section 3.6.2, RFC 2181 section 10.1, RFC 4035 section 2.5).
+/// Whether records of the type may not stand beside a CNAME (RFC 1034 section 3.6.2, RFC 2181 section 10.1, RFC 4035
+/// section 2.5).
 pub(crate) fn is_data_type(record_type: RecordType) -> bool
     ensures { result ≡ is_data_type record_type }
 {

@@ -8,6 +8,9 @@ ghost use Rattle.zone_check.specs.declared.finding.Finding.{Finding as FindingOf
 
 /// What is found of a zone holds, and what could be found of it and holds is found.
 pub fn findings_hold()
-    ensures sound { (zone : CheckedZone) (findings : List FindingOf) (finding : FindingOf) → AreFindings zone findings → Contains findings finding → Holds zone finding }
-    ensures complete { (zone : CheckedZone) (findings : List FindingOf) (finding : FindingOf) → AreFindings zone findings → Contains (all_findings (length zone.records)) finding → Holds zone finding → Contains findings finding }
+    ensures sound { (zone : CheckedZone) (findings : List FindingOf) (finding : FindingOf) → AreFindings zone findings →
+        Contains findings finding → Holds zone finding }
+    ensures complete { (zone : CheckedZone) (findings : List FindingOf) (finding : FindingOf) →
+        AreFindings zone findings → Contains (all_findings (length zone.records)) finding → Holds zone finding →
+        Contains findings finding }
 {}

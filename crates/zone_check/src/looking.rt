@@ -101,7 +101,8 @@ fn look_for(
     finding: Finding,
     found: &mut Vec<Finding>,
 ) -> Result<(), AllocError>
-    ensures { OnOk result ((all : List FindingOf) → Selects zone.now all found.old.items → Selects zone.now (all ++ finding ∷ []) found.new.items) }
+    ensures { OnOk result ((all : List FindingOf) → Selects zone.now all found.old.items →
+        Selects zone.now (all ++ finding ∷ []) found.new.items) }
 {
     let held = is_held(alloc, zone, finding)?;
     if held {
@@ -144,7 +145,8 @@ fn look_at(
     kinds: &[Kind],
     found: &mut Vec<Finding>,
 ) -> Result<(), AllocError>
-    ensures { OnOk result ((all : List FindingOf) → Selects zone.now all found.old.items → Selects zone.now (all ++ map (at_place place) kinds.now) found.new.items) }
+    ensures { OnOk result ((all : List FindingOf) → Selects zone.now all found.old.items →
+        Selects zone.now (all ++ map (at_place place) kinds.now) found.new.items) }
 {
     for kind in kinds {
         let finding = Finding {
@@ -186,12 +188,17 @@ fn look_at_all(alloc: Global, zone: &Subject<'_>, count: usize) -> Result<Vec<Fi
     Ok(found)
 }
 
-/// What is found of a zone: of the zone as a whole first, then of each of its records in their order, and of each record by kind,
-/// as the kinds stand in [`Kind`].
+/// What is found of a zone: of the zone as a whole first, then of each of its records in their order, and of each
+/// record by kind, as the kinds stand in [`Kind`].
 ///
-/// `records` are the records of a zone file in its order, as `zone_text::read_zone_file` gives them; `origin` is the name of the
-/// apex, taken as fully qualified. `previous` is the serial of the zone before, if that is known. The time is by the records, for each
-/// by the labels of its name, the depth of a map of all, and the records of its name and type before it; the memory is by the records. The one error is want of memory.
+/// `records` are the records of a zone file in its order, as `zone_text::read_zone_file` gives them; `origin` is the
+/// name of the apex, taken as fully qualified. `previous` is the serial of the zone before, if that is known. The time
+/// is by the records, for each by the labels of its name, the depth of a map of all, and the records of its name and
+/// type before it; the memory is by the records.
+///
+/// # Errors
+///
+/// The one error is want of memory.
 pub fn check(
     alloc: Global,
     origin: &Name,

@@ -48,7 +48,8 @@ fn differs_from_first(
     zone: &Subject<'_>,
     record: &Record,
 ) -> Result<bool, AllocError>
-    ensures { IfOk result (λ is. IsTrue is ↔ OfFirst (λ first. ¬ (SameData first.rdata «record».now.rdata)) zone.now «record».now) }
+    ensures { IfOk result (λ is. IsTrue is ↔
+        OfFirst (λ first. ¬ (SameData first.rdata «record».now.rdata)) zone.now «record».now) }
 {
     match zone.first_of(alloc, &record.name, record.rdata.record_type())? {
         Some(first) => Ok(are_other_data(&first.rdata, &record.rdata)),

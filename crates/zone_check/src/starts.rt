@@ -104,7 +104,8 @@ pub(crate) fn has_odd_retry(record: &Record) -> bool
     }
 }
 
-/// Whether it is an SOA record with an expire time that is not from 2 to 4 weeks, or not above refresh and retry times together.
+/// Whether it is an SOA record with an expire time that is not from 2 to 4 weeks, or not above refresh and retry times
+/// together.
 pub(crate) fn has_odd_expire(record: &Record) -> bool
     ensures { IsTrue result ↔ OfSoa HasOddExpire «record».now.rdata }
 {
@@ -141,8 +142,8 @@ fn serial_of(record: &Record) -> Option<u32>
     }
 }
 
-/// The serial of a zone: that of its first SOA record at the apex, which is fully qualified as names in zone files are. None where there
-/// is no such record. The time is by the records.
+/// The serial of a zone: that of its first SOA record at the apex, which is fully qualified as names in zone files are.
+/// None where there is no such record. The time is by the records.
 pub fn apex_serial(origin: &Name, records: &[Record]) -> Option<u32> {
     match records.iter().find(|it| is_start(origin, it)) {
         Some(record) => serial_of(record),

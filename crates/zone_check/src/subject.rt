@@ -45,7 +45,9 @@ impl<'z> Model for Subject<'z> {
 
     ghost view = { λ s. record { origin = s.origin; records = s.records.now; previous = s.previous } };
 
-    ghost invariant = { λ s. HasFirsts s.records.now s.records.now s.firsts × HasData s.records.now s.records.now s.others × HasWilds s.records.now s.records.now s.wilds × HasServers s.records.now s.records.now s.servers × HasEarlier s.records.now s.earlier.items };
+    ghost invariant = { λ s. HasFirsts s.records.now s.records.now s.firsts ×
+        HasData s.records.now s.records.now s.others × HasWilds s.records.now s.records.now s.wilds ×
+        HasServers s.records.now s.records.now s.servers × HasEarlier s.records.now s.earlier.items };
 }
 
 impl<'z> Subject<'z> {
@@ -56,7 +58,13 @@ impl<'z> Subject<'z> {
         records: &'z [Record],
         previous: Option<u32>,
     ) -> Result<Subject<'z>, AllocError>
-        ensures { IfOk result (λ subject. subject ≡ record { origin = record origin.now { is_fqdn = true }; records = records.now; previous = previous }) }
+        ensures { IfOk result (λ subject.
+            subject ≡ record {
+              origin = record origin.now { is_fqdn = true };
+              records = records.now;
+              previous =
+                  previous;
+            }) }
     {
         let mut apex = origin.clone()?;
         apex.set_fqdn(true);
@@ -82,7 +90,8 @@ impl<'z> Subject<'z> {
     /// Whether a record before the one at a place is the same.
     pub(crate) fn is_repeated(&self, place: usize) -> bool
         requires { place < length self.now.records }
-        ensures { (r : RecordOf RecordData) → slice_get self.now.records place ≡ Some r → (IsTrue result ↔ IsRepeated self.now.records place r) }
+        ensures { (r : RecordOf RecordData) → slice_get self.now.records place ≡ Some r →
+            (IsTrue result ↔ IsRepeated self.now.records place r) }
     {
         index::stands_before(self.records, &self.earlier, place)
     }

@@ -8,11 +8,11 @@ use Rattle.wire_names.specs.rr.domain.DomainName.{DomainName}
 use Rattle.wire_messages.specs.rr.RecordData.{type_of}
 use Rattle.wire_names.proofs.lemmas.rr.domain.SameNames.{both_ways}
 use Rattle.hickory_base.specs.zone_store.ZoneRecords.{is_at, is_of, rrset}
-use Rattle.hickory_store.specs.Changes.{is_type}
-use Rattle.hickory_store.specs.Identity.{SameZone, same_record, ttl_at}
-use Rattle.hickory_store.specs.UpdateAnswers.{is_apex_soa}
-use Rattle.hickory_store.proofs.ApexNs.{Records, Resource}
-use Rattle.hickory_store.proofs.SameZones.{Identity, Respects, both_respect, name_respects, not_respects, same_itself, same_turned, same_via, some_ttl, ttl_append, ttl_filter, type_respects}
+use Rattle.hickory_store.specs.updates.Changes.{is_type}
+use Rattle.hickory_store.specs.updates.Identity.{SameZone, same_record, ttl_at}
+use Rattle.hickory_store.specs.updates.UpdateAnswers.{is_apex_soa}
+use Rattle.hickory_store.proofs.lemmas.updates.ApexNs.{Records, Resource}
+use Rattle.hickory_store.proofs.lemmas.updates.SameZones.{Identity, Respects, both_respect, name_respects, not_respects, same_itself, same_turned, same_via, some_ttl, ttl_append, ttl_filter, type_respects}
 use Rattle.zone_differences.specs.Differences.{AppliedLeads, AppliedRespects, applied, is_changed, same_ttl, without}
 use Rattle.zone_differences.specs.declared.difference.Difference.{Difference}
 

@@ -4,11 +4,11 @@ use Rattle.std.specs.List.{flat_map}
 use Rattle.std.specs.Option.{option_or}
 use Rattle.wire_names.specs.rr.domain.DomainName.{DomainName}
 use Rattle.hickory_base.specs.zone_store.ZoneRecords.{is_at, rrset}
-use Rattle.hickory_store.specs.Identity.{SameZone, ttl_at}
-use Rattle.hickory_store.specs.NameUpdates.{of_name}
-use Rattle.hickory_store.specs.UpdateAnswers.{is_apex_soa}
-use Rattle.hickory_store.proofs.ApexNs.{Records, Resource}
-use Rattle.hickory_store.proofs.SameZones.{Identity, name_respects, ttl_append, ttl_filter}
+use Rattle.hickory_store.specs.updates.Identity.{SameZone, ttl_at}
+use Rattle.hickory_store.specs.updates.NameUpdates.{of_name}
+use Rattle.hickory_store.specs.updates.UpdateAnswers.{is_apex_soa}
+use Rattle.hickory_store.proofs.lemmas.updates.ApexNs.{Records, Resource}
+use Rattle.hickory_store.proofs.lemmas.updates.SameZones.{Identity, name_respects, ttl_append, ttl_filter}
 use Rattle.zone_differences.specs.Differences.{IsDifference, is_changed, same_ttl}
 use Rattle.zone_differences.specs.Standing.{AreStanding, are_among, came, went}
 use Rattle.zone_differences.specs.declared.difference.Difference.{Difference}

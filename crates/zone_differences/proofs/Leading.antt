@@ -3,8 +3,8 @@ use Rattle.std.proofs.Common.{◌≡◌, ◌∙◌, ◌⊎◌, inl, inr, ap, sym
 use Rattle.hickory_base.specs.zone_store.ZoneAnswers.{MemoryZone}
 use Rattle.hickory_base.specs.zone_store.ZoneRecords.{rrset}
 use Rattle.hickory_base.specs.zone_store.ZoneSets.{zone_records}
-use Rattle.hickory_store.specs.Identity.{SameZone, ttl_at}
-use Rattle.hickory_store.proofs.ApexNs.{Records}
+use Rattle.hickory_store.specs.updates.Identity.{SameZone, ttl_at}
+use Rattle.hickory_store.proofs.lemmas.updates.ApexNs.{Records}
 use Rattle.zone_differences.specs.Differences.{AppliedLeads, AppliedRespects, IsDifferenceOf, applied, applied_all}
 use Rattle.zone_differences.specs.Histories.{IsRecorded}
 use Rattle.zone_differences.specs.Versions.{AllLead, LeadFrom, RecordedLead}

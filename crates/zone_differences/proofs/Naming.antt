@@ -3,7 +3,7 @@ use Rattle.std.proofs.Common.{◌≡◌, ◌∙◌, ◌≤◌, ◌<◌, ap, arit
 use Rattle.wire_names.specs.rr.domain.DomainName.{DomainName}
 use Rattle.wire_names.specs.rr.domain.NameOrder.{lower_name, name_eq}
 use Rattle.wire_names.proofs.lemmas.rr.domain.SameNames.{eq_from_same, lower_same}
-use Rattle.hickory_store.proofs.ApexNs.{names}
+use Rattle.hickory_store.proofs.lemmas.updates.ApexNs.{names}
 use Rattle.zone_differences.specs.Standing.{are_among}
 use Rattle.zone_differences.specs.declared.names.NameRecords.{NameRecords}
 

@@ -11,7 +11,8 @@ use Rattle.zone_differences.specs.declared.difference.Difference.{Difference}
 abbrev pub sequence : Difference → List (Record RData)
 sequence difference = difference.old_soa ∷ difference.deleted ++ difference.new_soa ∷ difference.added
 
--- The SOA of the zone as it is, the differences from the oldest to the newest, and that SOA again. Given is what there is in the place of the SOA alone.
+-- The SOA of the zone as it is, the differences from the oldest to the newest, and that SOA again. Given is what there
+-- is in the place of the SOA alone.
 abbrev pub with_differences : List Difference → Result ZoneTransfer LookupError → Result ZoneTransfer LookupError
 with_differences differences (Ok soa) = Ok (record { records = soa.records ++ flat_map sequence differences ++ soa.records })
 with_differences differences (Err e) = Err e

@@ -1,4 +1,5 @@
--- What stands in a zone before an update, at the names that the update speaks of, and what leads from there to the zone that the update leaves.
+-- What stands in a zone before an update, at the names that the update speaks of, and what leads from there to the zone
+-- that the update leaves.
 use Rattle.std.specs.Prelude.{◌≡◌, ◌∷◌, All, Bool, true, IfOk, IfSome, List, [], filter, Option, Result, Ok}
 use Rattle.std.specs.List.{AllByRecursion, list_any}
 use Rattle.std.specs.declared.alloc.AllocError.{AllocError}
@@ -9,8 +10,8 @@ use Rattle.wire_messages.specs.declared.rr.record.Record.{Record}
 use Rattle.hickory_base.specs.zone_store.ZoneAnswers.{MemoryZone}
 use Rattle.hickory_base.specs.zone_store.ZoneRecords.{rrset}
 use Rattle.hickory_base.specs.zone_store.ZoneSets.{zone_records}
-use Rattle.hickory_store.specs.NameUpdates.{of_name}
-use Rattle.hickory_store.specs.UpdateAnswers.{Updates, applied}
+use Rattle.hickory_store.specs.updates.NameUpdates.{of_name}
+use Rattle.hickory_store.specs.updates.UpdateAnswers.{Updates, applied}
 use Rattle.zone_differences.specs.Differences.{IsDifferenceOf, is_changed}
 use Rattle.zone_differences.specs.Histories.{IsRecorded}
 use Rattle.zone_differences.specs.declared.before.Before.{Before}
@@ -29,7 +30,8 @@ AreStanding zone names = AllByRecursion (λ e. e.records ≡ of_name e.name zone
 abbrev pub Keeps : List NameRecords → List NameRecords → Type 0
 Keeps old new = (name : DomainName) → are_among old name ≡ true → are_among new name ≡ true
 
--- What stands in a zone before an update of these records: its one SOA, and the records of the apex and of each name that the update speaks of.
+-- What stands in a zone before an update of these records: its one SOA, and the records of the apex and of each name
+-- that the update speaks of.
 pub record IsBefore (zone : MemoryZone) (updates : List (Record RData)) (before : Before) : Type 0 where
   pub soa : rrset (zone_records zone.sets) zone.origin 6 ≡ before.soa ∷ []
   pub standing : AreStanding (zone_records zone.sets) before.names.items
@@ -45,9 +47,10 @@ came origin zone e = filter (is_changed origin e.records (of_name e.name zone)) 
 
 -- These records of an update section were done to the zone, and changed it (RFC 2136 sections 3.4.2 and 3.6).
 abbrev pub IsChangedBy : List (Record RData) → MemoryZone → MemoryZone → Type 0
-IsChangedBy updates old new = Updates (applied old.origin 1 (zone_records old.sets) updates true) (Ok true) old new
+IsChangedBy updates old new = Updates (applied old.origin (zone_records old.sets) updates true) (Ok true) old new
 
--- An update may have left the zone `new`. Of each zone that it was made in, where that stood there before, the difference leads from that zone to this one.
+-- An update may have left the zone `new`. Of each zone that it was made in, where that stood there before, the
+-- difference leads from that zone to this one.
 abbrev pub Leads : Before → MemoryZone → Difference → Type 0
 Leads before new difference =
     (old : MemoryZone) (updates : List (Record RData)) → IsBefore old updates before → IsChangedBy updates old new → IsDifferenceOf old new difference
@@ -56,7 +59,8 @@ Leads before new difference =
 abbrev pub IsKnown : MemoryZone → List (Record RData) → Result (Option Before) AllocError → Type 0
 IsKnown zone updates before = IfOk before (λ found. IfSome found (IsBefore zone updates))
 
--- An update may have left the zone `new`. Of each zone that it was made in, where that stood there before, what it changed is recorded.
+-- An update may have left the zone `new`. Of each zone that it was made in, where that stood there before, what it
+-- changed is recorded.
 abbrev pub Records : Result (Option Before) AllocError → MemoryZone → List Difference → List Difference → Type 0
 Records before new history after =
     (old : MemoryZone) (updates : List (Record RData)) → IsKnown old updates before → IsChangedBy updates old new → IsRecorded old new history after

@@ -5,7 +5,7 @@ use Rattle.wire_messages.specs.declared.rr.record.Record.{Record}
 use Rattle.hickory_base.specs.zone_store.ZoneAnswers.{MemoryZone}
 use Rattle.hickory_base.specs.zone_store.ZoneRecords.{rrset}
 use Rattle.hickory_base.specs.zone_store.ZoneSets.{zone_records}
-use Rattle.hickory_store.specs.Identity.{SameZone}
+use Rattle.hickory_store.specs.updates.Identity.{SameZone}
 use Rattle.zone_differences.specs.Differences.{applied_all}
 use Rattle.zone_differences.specs.Histories.{IsKeptUp}
 use Rattle.zone_differences.specs.declared.difference.Difference.{Difference}
@@ -15,7 +15,8 @@ abbrev pub IsAmong : MemoryZone → List MemoryZone → Type 0
 IsAmong zone [] = ⊥
 IsAmong zone (version ∷ versions) = (zone ≡ version) ⊎ IsAmong zone versions
 
--- The differences from one on lead from a version that the zone has had to the zone as it is: from that with the SOA of which the first of them speaks.
+-- The differences from one on lead from a version that the zone has had to the zone as it is: from that with the SOA of
+-- which the first of them speaks.
 pub record LeadFrom (versions : List MemoryZone) (difference : Difference) (differences : List Difference) (zone : MemoryZone) : Type 0 where
   pub version : MemoryZone
   pub is_one : IsAmong version versions

@@ -9,14 +9,15 @@ use crate::comparing::push_changed;
 use crate::difference::Difference;
 use crate::names::{NameRecords, apex_soa, push_name, push_names};
 use hickory_base::zone_store::{InMemoryZoneHandler, ZoneHandler};
-use hickory_store::sqlite::laws::identities;
+use hickory_store::updates::laws::identities;
 use hickory_wire::{Items, Name, Record};
 use std::alloc::{AllocError, Global};
 
 /// How many records an update may have of which the difference is kept.
 const MOST_RECORDS: usize = 1000;
 
-/// What stands in a zone before an update: its SOA record, and the records of the apex and of each name that the update speaks of.
+/// What stands in a zone before an update: its SOA record, and the records of the apex and of each name that the update
+/// speaks of.
 #[derive(Debug, Drop)]
 pub struct Before {
     pub(crate) soa: Record,
@@ -32,8 +33,10 @@ fn push_difference(
     deleted: &mut Vec<Record>,
     added: &mut Vec<Record>,
 ) -> Result<(), AllocError>
-    ensures deleted { OnOk result (deleted.new.items ≡ deleted.old.items ++ went origin.now (zone_records zone.now.sets) before.now) }
-    ensures added { OnOk result (added.new.items ≡ added.old.items ++ came origin.now (zone_records zone.now.sets) before.now) }
+    ensures deleted { OnOk result (deleted.new.items ≡ deleted.old.items ++ went origin.now
+        (zone_records zone.now.sets) before.now) }
+    ensures added { OnOk result (added.new.items ≡ added.old.items ++ came origin.now
+        (zone_records zone.now.sets) before.now) }
 {
     let after = zone.records_of_name(alloc, before.name.clone()?)?;
     let standing = before.records.as_slice();
@@ -47,8 +50,10 @@ fn compare(
     zone: &InMemoryZoneHandler,
     names: &[NameRecords],
 ) -> Result<(Items<Record>, Items<Record>), AllocError>
-    ensures deleted { IfOk result (λ lists. lists.0 ≡ flat_map (went zone.now.origin (zone_records zone.now.sets)) names.now) }
-    ensures added { IfOk result (λ lists. lists.1 ≡ flat_map (came zone.now.origin (zone_records zone.now.sets)) names.now) }
+    ensures deleted { IfOk result (λ lists.
+        lists.0 ≡ flat_map (went zone.now.origin (zone_records zone.now.sets)) names.now) }
+    ensures added { IfOk result (λ lists.
+        lists.1 ≡ flat_map (came zone.now.origin (zone_records zone.now.sets)) names.now) }
 {
     let origin = zone.origin().as_name();
     let mut deleted = Vec::new(alloc);
@@ -60,9 +65,9 @@ fn compare(
 }
 
 impl Before {
-    /// What stands in a zone before an update of these records is made; `None` where its apex has another number of SOA records than one, and of an update of
-    /// more than a thousand records. It takes memory for copies of the records of the names that the update speaks of, and time by those, and by the square of
-    /// the number of names.
+    /// What stands in a zone before an update of these records is made; `None` where its apex has another number of SOA
+    /// records than one, and of an update of more than a thousand records. It takes memory for copies of the records of
+    /// the names that the update speaks of, and time by those, and by the square of the number of names.
     pub fn of(
         alloc: Global,
         zone: &InMemoryZoneHandler,
@@ -82,8 +87,9 @@ impl Before {
         Ok(Some(Before { soa, names }))
     }
 
-    /// What the update has changed, of the zone that it left; `None` where that has another number of SOA records at its apex than one. It takes memory for
-    /// copies of the records that have changed, and time by the records of the names that the update speaks of, by the square of those of each.
+    /// What the update has changed, of the zone that it left; `None` where that has another number of SOA records at
+    /// its apex than one. It takes memory for copies of the records that have changed, and time by the records of the
+    /// names that the update speaks of, by the square of those of each.
     pub fn until(
         self,
         alloc: Global,

@@ -7,8 +7,8 @@ ghost use Rattle.zone_differences.specs.Sequences.{sequence};
 use hickory_wire::{Items, Record};
 use std::alloc::AllocError;
 
-/// What leads from one version of a zone to the next (RFC 1995 sections 2 and 4): the records that go, and those that come. A record of which the TTL
-/// changes goes, and comes.
+/// What leads from one version of a zone to the next (RFC 1995 sections 2 and 4): the records that go, and those that
+/// come. A record of which the TTL changes goes, and comes.
 #[derive(Debug, Drop)]
 pub struct Difference {
     /// The SOA record of the version that it leads from.
@@ -51,7 +51,7 @@ fn push_sequence(all: &mut Vec<Record>, difference: &Difference) -> Result<(), A
     push_copies(all, difference.added.as_slice())
 }
 
-/// The same of several, one after another.
+/// Puts copies of the records of several differences last, one difference after another.
 pub(crate) fn push_sequences(
     all: &mut Vec<Record>,
     differences: &[Difference],

@@ -61,8 +61,8 @@ fn since(differences: &[Difference], serial: u32) -> &[Difference]
 }
 
 impl History {
-    /// How many records of transfers are to be kept of a zone, twice, so that the differences are no longer than the zone (RFC 1995 section 5): half as many as
-    /// it has record sets, and so many at least.
+    /// How many records of transfers are to be kept of a zone, twice, so that the differences are no longer than the
+    /// zone (RFC 1995 section 5): half as many as it has record sets, and so many at least.
     pub fn limit_of(zone: &InMemoryZoneHandler, least: usize) -> usize {
         let half = zone.records().len() / 2;
         half.max(least)
@@ -89,7 +89,8 @@ impl History {
         self.size = 0;
     }
 
-    /// Makes room among the newer differences, where so many records more would be too many: they are the older ones from now on.
+    /// Makes room among the newer differences, where so many records more would be too many: they are the older ones
+    /// from now on.
     fn make_room(&mut self, alloc: Global, size: usize)
         ensures { IsFollowed self.old [] self.new }
     {
@@ -99,8 +100,8 @@ impl History {
         }
     }
 
-    /// Puts a difference last, which leads on from the one before it. Where there are too many records, the oldest differences are given up, and where there
-    /// is no memory, all.
+    /// Puts a difference last, which leads on from the one before it. Where there are too many records, the oldest
+    /// differences are given up, and where there is no memory, all.
     pub fn push(&mut self, alloc: Global, difference: Difference)
         ensures { IsFollowed self.old (difference ∷ []) self.new }
     {
@@ -116,8 +117,8 @@ impl History {
         }
     }
 
-    /// Puts what an update has changed of a zone last, of what stood there before it and the zone that it left. Where that is not known, all differences are
-    /// given up.
+    /// Puts what an update has changed of a zone last, of what stood there before it and the zone that it left. Where
+    /// that is not known, all differences are given up.
     pub fn follow(
         &mut self,
         alloc: Global,
@@ -136,8 +137,8 @@ impl History {
         }
     }
 
-    /// The differences that lead from the version of a serial to the zone as it is, from the newest one where there are several; none where no difference leads
-    /// from there. It takes time by the number of differences.
+    /// The differences that lead from the version of a serial to the zone as it is, from the newest one where there are
+    /// several; none where no difference leads from there. It takes time by the number of differences.
     pub fn since(&self, serial: u32) -> Steps<'_>
         ensures { result.older.now ++ result.newer.now ≡ since serial self.now }
     {
@@ -183,9 +184,11 @@ impl<'h> Steps<'h> {
         self.older.is_empty() && self.newer.is_empty()
     }
 
-    /// The transfer that gives them to a client (RFC 1995 section 4): `soa` has the SOA of the zone as it is, which stands first and last.
+    /// The transfer that gives them to a client (RFC 1995 section 4): `soa` has the SOA of the zone as it is, which
+    /// stands first and last.
     pub fn transfer(self, alloc: Global, soa: &ZoneTransfer) -> Result<ZoneTransfer, AllocError>
-        ensures { IfOk result (λ transfer. with_differences (self.entry.older.now ++ self.entry.newer.now) (Ok soa.now) ≡ Ok transfer) }
+        ensures { IfOk result (λ transfer. with_differences (self.entry.older.now ++ self.entry.newer.now)
+            (Ok soa.now) ≡ Ok transfer) }
     {
         let mut records = Vec::new(alloc);
         push_copies(&mut records, soa.records.as_slice())?;

@@ -30,7 +30,8 @@ pub(crate) fn push_name(
     name: &Name,
     names: &mut Vec<NameRecords>,
 ) -> Result<(), AllocError>
-    ensures standing { OnOk result (AreStanding (zone_records zone.now.sets) names.old.items → AreStanding (zone_records zone.now.sets) names.new.items) }
+    ensures standing { OnOk result (AreStanding (zone_records zone.now.sets) names.old.items →
+        AreStanding (zone_records zone.now.sets) names.new.items) }
     ensures there { OnOk result (are_among names.new.items name.now ≡ true) }
     ensures others { OnOk result (Keeps names.old.items names.new.items) }
 {
@@ -46,14 +47,15 @@ pub(crate) fn push_name(
     Ok(())
 }
 
-/// The same of the owner names of records.
+/// Puts the owner names of records among these names, each once, with what the zone has of it.
 pub(crate) fn push_names(
     alloc: Global,
     zone: &InMemoryZoneHandler,
     records: &[Record],
     names: &mut Vec<NameRecords>,
 ) -> Result<(), AllocError>
-    ensures standing { OnOk result (AreStanding (zone_records zone.now.sets) names.old.items → AreStanding (zone_records zone.now.sets) names.new.items) }
+    ensures standing { OnOk result (AreStanding (zone_records zone.now.sets) names.old.items →
+        AreStanding (zone_records zone.now.sets) names.new.items) }
     ensures there { OnOk result (All (λ r. are_among names.new.items r.name ≡ true) records.now) }
 {
     for r in records {
@@ -67,7 +69,8 @@ pub(crate) fn apex_soa(
     alloc: Global,
     zone: &InMemoryZoneHandler,
 ) -> Result<Option<Record>, AllocError>
-    ensures { IfOk result (λ found. IfSome found (λ soa. rrset (zone_records zone.now.sets) zone.now.origin 6 ≡ soa ∷ [])) }
+    ensures { IfOk result (λ found.
+        IfSome found (λ soa. rrset (zone_records zone.now.sets) zone.now.origin 6 ≡ soa ∷ [])) }
 {
     let key = RrKey::new(zone.origin().clone()?, RecordType::SOA);
     match zone.record_set(&key) {

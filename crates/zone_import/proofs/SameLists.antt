@@ -9,9 +9,9 @@ use Rattle.wire_messages.specs.rr.RecordSameness.{SameRecord}
 use Rattle.wire_names.proofs.lemmas.rr.domain.SameNames.{both_ways}
 use Rattle.hickory_base.specs.declared.zone_store.record_set.RecordSet.{RecordSet}
 use Rattle.hickory_base.specs.zone_store.ZoneSets.{AreDistinct, shared_sets, zone_records}
-use Rattle.hickory_store.specs.Identity.{SameZone, same_record, ttl_at}
-use Rattle.hickory_store.proofs.ApexNs.{Records, Resource}
-use Rattle.hickory_store.proofs.SameZones.{Identity, same_respects, same_turned, same_via, ttl_append}
+use Rattle.hickory_store.specs.updates.Identity.{SameZone, same_record, ttl_at}
+use Rattle.hickory_store.proofs.lemmas.updates.ApexNs.{Records, Resource}
+use Rattle.hickory_store.proofs.lemmas.updates.SameZones.{Identity, same_respects, same_turned, same_via, ttl_append}
 
 -- the record of the same identity has this TTL there
 abbrev pub Has : Records → Resource → Type 0

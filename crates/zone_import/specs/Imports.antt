@@ -6,7 +6,7 @@ use Rattle.wire_messages.specs.declared.rr.record.Record.{Record}
 use Rattle.hickory_base.specs.zone_store.Serials.{is_greater}
 use Rattle.hickory_base.specs.zone_store.ZoneAnswers.{MemoryZone, soa_serial, zone_soa}
 use Rattle.hickory_base.specs.zone_store.ZoneSets.{zone_records}
-use Rattle.hickory_store.specs.Identity.{SameZone}
+use Rattle.hickory_store.specs.updates.Identity.{SameZone}
 use Rattle.sqlite_disk.specs.declared.Disk.{Ghosts as DiskGhosts}
 use Rattle.update_journal.specs.Frames.{StandsFor}
 use Rattle.update_journal.specs.JournalState.{JournalState}

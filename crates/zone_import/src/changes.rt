@@ -7,8 +7,9 @@ use std::alloc::{AllocError, Global};
 
 /// What turns a zone into another one, but for the SOA record, by the forms of RFC 2136 section 2.5.
 ///
-/// What goes stands before what comes, since a CNAME and other data of its name are not added beside one another (section 3.4.2.2). NS records go last, since
-/// the only one of a name stays (section 3.4.2.4), and where a set of them goes as a whole, first and at once (section 2.5.2).
+/// What goes stands before what comes, since a CNAME and other data of its name are not added beside one another
+/// (section 3.4.2.2). NS records go last, since the only one of a name stays (section 3.4.2.4), and where a set of them
+/// goes as a whole, first and at once (section 2.5.2).
 #[derive(Drop)]
 pub(crate) struct Changes {
     /// Deletions.

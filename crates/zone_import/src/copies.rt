@@ -2,7 +2,7 @@
 
 ghost use Rattle.std.specs.Prelude.{◌++◌, ◌≡◌, IfOk, OnOk, map};
 ghost use Rattle.hickory_base.specs.zone_store.ZoneSets.{sets_of, zone_records};
-ghost use Rattle.hickory_store.specs.Identity.{SameZone};
+ghost use Rattle.hickory_store.specs.updates.Identity.{SameZone};
 ghost use Rattle.zone_import.specs.Imports.{numbered};
 
 use crate::sameness::Sets;
@@ -10,13 +10,15 @@ use crate::serials::number;
 use hickory_base::zone_store::{InMemoryZoneHandler, ZoneHandler};
 use hickory_server::server::NoKeys;
 use hickory_store::file::{RecordsError, zone_of_records};
-use hickory_store::sqlite::SqliteZoneHandler;
-use hickory_store::sqlite::laws::identities;
+use hickory_store::updates::UpdatableZoneHandler;
+use hickory_store::updates::laws::identities;
 use hickory_wire::{Record, record_comparisons};
 use std::alloc::{AllocError, Global};
 
 /// A copy of a zone, which shares its records, that nobody may change by a request.
-pub(crate) fn copy_of(zone: &InMemoryZoneHandler) -> Result<SqliteZoneHandler<NoKeys>, AllocError>
+pub(crate) fn copy_of(
+    zone: &InMemoryZoneHandler,
+) -> Result<UpdatableZoneHandler<NoKeys>, AllocError>
     ensures { IfOk result (λ copy. copy.zone ≡ zone.now) }
 {
     let origin = zone.origin().clone()?;
@@ -27,7 +29,7 @@ pub(crate) fn copy_of(zone: &InMemoryZoneHandler) -> Result<SqliteZoneHandler<No
     let kind = zone.zone_type();
     let policy = zone.axfr_policy();
     let copy = InMemoryZoneHandler::new(origin, sets, kind, policy);
-    Ok(SqliteZoneHandler::new(copy, policy, false, NoKeys))
+    Ok(UpdatableZoneHandler::new(copy, policy, false, NoKeys))
 }
 
 /// Puts copies of records last, with this serial where they are SOAs.
@@ -62,7 +64,8 @@ pub fn with_serial(
     zone: &InMemoryZoneHandler,
     serial: u32,
 ) -> Result<InMemoryZoneHandler, RecordsError>
-    ensures { IfOk result (λ made. SameZone (zone_records made.sets) (map (numbered serial) (zone_records zone.now.sets))) }
+    ensures { IfOk result (λ made.
+        SameZone (zone_records made.sets) (map (numbered serial) (zone_records zone.now.sets))) }
 {
     identities();
     record_comparisons();

@@ -40,8 +40,8 @@ impl From<RedoError> for RequestFault {
     }
 }
 
-/// Why a zone is not turned into another one. Nothing is done then; but after `Journal(Disk)` it is for the next recovery of the journal to say whether the
-/// updates are in it, all or none.
+/// Why a zone is not turned into another one. Nothing is done then; but after `Journal(Disk)` it is for the next
+/// recovery of the journal to say whether the updates are in it, all or none.
 #[derive(Debug, Drop, Error)]
 pub enum ImportError {
     /// The serial of the other zone is not above that of this one (RFC 1982 section 3.2).
@@ -50,7 +50,8 @@ pub enum ImportError {
     /// A record does not fit a request of 65,535 octets.
     #[error("a record does not fit a request")]
     TooLong,
-    /// The updates do not lead to the other zone, as where it has another apex, no NS record there, a record without data, or other data beside a CNAME.
+    /// The updates do not lead to the other zone, as where it has another apex, no NS record there, a record without
+    /// data, or other data beside a CNAME.
     #[error("no updates lead to this zone")]
     Unreached,
     /// The journal does not take the updates.

@@ -17,7 +17,7 @@ use durable_updates::redo;
 use hickory_base::zone_store::serials::is_greater;
 use hickory_base::zone_store::{InMemoryZoneHandler, ZoneHandler};
 use hickory_server::server::NoKeys;
-use hickory_store::sqlite::{SqliteZoneHandler, Verifier};
+use hickory_store::updates::{UpdatableZoneHandler, Verifier};
 use sqlite_disk::Disk;
 use std::alloc::Global;
 use update_journal::Journal;
@@ -99,7 +99,7 @@ fn reached(
     zone: &InMemoryZoneHandler,
     entries: &[Vec<u8>],
     other: &InMemoryZoneHandler,
-) -> Result<SqliteZoneHandler<NoKeys>, RequestFault>
+) -> Result<UpdatableZoneHandler<NoKeys>, RequestFault>
     ensures redone { IfOk result (λ ahead. Redone (contents entries.now) zone.now ahead.zone) }
     ensures same { IfOk result (λ ahead. AreSame ahead.zone other.now) }
 {
@@ -112,19 +112,22 @@ fn reached(
     }
 }
 
-/// Turns a zone with its journal into another zone of its apex, as that of a zone file that was edited: what goes is deleted, and what comes is added, by
-/// requests for updates (RFC 2136 section 2.5) of at most 65,535 octets each, which are added to the journal as one batch. Where the zones are the same, the
-/// journal is left alone.
+/// Turns a zone with its journal into another zone of its apex, as that of a zone file that was edited: what goes is
+/// deleted, and what comes is added, by requests for updates (RFC 2136 section 2.5) of at most 65,535 octets each,
+/// which are added to the journal as one batch. Where the zones are the same, the journal is left alone.
 ///
-/// The requests are done to a copy first, as who recovers the journal does them, and only where that is then the same as the other zone they are written. The
-/// other's serial has to be above that of the zone (RFC 1982 section 3.2). Of a serial that fewer updates reach the SOA record goes once round all serials.
+/// The requests are done to a copy first, as who recovers the journal does them, and only where that is then the same
+/// as the other zone they are written. The other's serial has to be above that of the zone (RFC 1982 section 3.2). Of a
+/// serial that fewer updates reach the SOA record goes once round all serials.
 ///
-/// A crash at any moment leaves a file of the journal that stands for the zone as it was, or for the other one. After an error the zone is as it was, and so is
-/// the journal; but after `Journal(Disk)` it takes no update any more, until it is recovered from its file.
+/// A crash at any moment leaves a file of the journal that stands for the zone as it was, or for the other one. After
+/// an error the zone is as it was, and so is the journal; but after `Journal(Disk)` it takes no update any more, until
+/// it is recovered from its file.
 ///
-/// It takes memory for the names of both zones and for what changes, and time by the records of both, and by the square of those that change at one name.
+/// It takes memory for the names of both zones and for what changes, and time by the records of both, and by the square
+/// of those that change at one name.
 pub fn import<V: Verifier, D: Disk>(
-    zone: &mut SqliteZoneHandler<V>,
+    zone: &mut UpdatableZoneHandler<V>,
     journal: &mut Journal<D>,
     alloc: Global,
     other: &InMemoryZoneHandler,
@@ -132,15 +135,19 @@ pub fn import<V: Verifier, D: Disk>(
     ensures same { OnOk result (AreSame zone.new.zone other.now) }
     ensures kept { OnErr result (zone.new ≡ zone.old) }
     ensures others { zone.new ≡ record zone.old { zone = record zone.old.zone { sets = zone.new.zone.sets } } }
-    ensures serials { IfOk result (λ done. (done.old_serial ≡ serial_of zone.old.zone) × (done.new_serial ≡ serial_of other.now)) }
+    ensures serials { IfOk result (λ done. (done.old_serial ≡ serial_of zone.old.zone) ×
+        (done.new_serial ≡ serial_of other.now)) }
     ensures serial { result ≡ Err import_error.Serial → is_above other.now zone.old.zone ≡ false }
     ensures above { IfOk result (λ done. (done.requests ≡ 0) ⊎ (is_above other.now zone.old.zone ≡ true)) }
     // Entries that are on the disk, and make the zone of some first one, make the zone that it is then.
-    ensures acknowledged { OnOk result ((first : MemoryZone) → Keeps D.Disk first zone.old.zone journal.old → Keeps D.Disk first zone.new.zone journal.new) }
-    ensures refused { OnErr result ((journal.new ≡ journal.old) ⊎ ((journal.old.is_open ≡ true) × (journal.new.is_open ≡ false))) }
+    ensures acknowledged { OnOk result ((first : MemoryZone) → Keeps D.Disk first zone.old.zone journal.old →
+        Keeps D.Disk first zone.new.zone journal.new) }
+    ensures refused { OnErr result ((journal.new ≡ journal.old) ⊎
+        ((journal.old.is_open ≡ true) × (journal.new.is_open ≡ false))) }
     ensures clean { D.is_clean journal.new.disk ≡ D.is_clean journal.old.disk }
     // Whatever the answer, a crash leaves the zone as it was, or the other one.
-    ensures crash { (first : MemoryZone) → Keeps D.Disk first zone.old.zone journal.old → (c : List ℕ) → D.may_leave journal.new.disk c → LeavesEither first zone.old.zone other.now c }
+    ensures crash { (first : MemoryZone) → Keeps D.Disk first zone.old.zone journal.old → (c : List ℕ) →
+        D.may_leave journal.new.disk c → LeavesEither first zone.old.zone other.now c }
 {
     let old_serial = zone.in_memory().serial();
     let plan = planned(alloc, zone.in_memory(), other)?;

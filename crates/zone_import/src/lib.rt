@@ -1,4 +1,5 @@
-//! A zone that has a journal is turned into another one, as that of a zone file that was edited, by updates (RFC 2136) that are in the journal all or none.
+//! A zone that has a journal is turned into another one, as that of a zone file that was edited, by updates (RFC 2136)
+//! that are in the journal all or none.
 #![tactic(auto)]
 
 mod changes;

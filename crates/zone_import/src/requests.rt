@@ -36,7 +36,8 @@ pub(crate) fn zone_section(alloc: Global, origin: &LowerName) -> Result<Vec<u8>,
     Ok(bytes)
 }
 
-/// A request whose update section has these records, and then these SOA records, as far as they fit in it, and how many that are.
+/// A request whose update section has these records, and then these SOA records, as far as they fit in it, and how many
+/// that are.
 fn request_of(
     alloc: Global,
     zone: &[u8],
@@ -101,8 +102,8 @@ fn full_request<'r>(
     Ok((bytes, behind))
 }
 
-/// The SOA records that stand last in a request, behind others or alone, so that the zone has the new SOA once the request is done: that adds one to the
-/// serial (RFC 2136 section 3.6). None where that is all.
+/// The SOA records that stand last in a request, behind others or alone, so that the zone has the new SOA once the
+/// request is done: that adds one to the serial (RFC 2136 section 3.6). None where that is all.
 fn last_soas(
     alloc: Global,
     soa: &NewSoa<'_>,
@@ -128,8 +129,8 @@ fn last_request(
     whole_request(alloc, zone, updates, &soas)
 }
 
-/// Requests that do these updates to the zone of a zone section and of a serial, to each of which the update before it has added one; and the last of which
-/// leaves the new SOA.
+/// Requests that do these updates to the zone of a zone section and of a serial, to each of which the update before it
+/// has added one; and the last of which leaves the new SOA.
 pub(crate) fn requests_of(
     alloc: Global,
     zone: &[u8],

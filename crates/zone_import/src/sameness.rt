@@ -3,12 +3,12 @@
 ghost use Rattle.std.specs.Prelude.{◌≡◌, IfOk, IsTrue, Some, true};
 ghost use Rattle.std.specs.List.{AllByRecursion};
 ghost use Rattle.hickory_base.specs.zone_store.ZoneSets.{AreDistinct, IsZone, sets_of, zone_records};
-ghost use Rattle.hickory_store.specs.Identity.{SameZone, same_record, ttl_at};
+ghost use Rattle.hickory_store.specs.updates.Identity.{SameZone, same_record, ttl_at};
 ghost use Rattle.zone_import.specs.Imports.{AreSame};
 
 use crate::places::{place_of, places_of};
 use hickory_base::zone_store::{InMemoryZoneHandler, RecordSet};
-use hickory_store::sqlite::laws::identities;
+use hickory_store::updates::laws::identities;
 use hickory_wire::{Record, RrKey};
 use std::alloc::{AllocError, Global};
 use std::collections::BTreeMap;
@@ -94,7 +94,8 @@ fn is_same_set(alloc: Global, records: &[Record], others: &[Record]) -> Result<b
 /// Whether the sets of two zones are the same, one by one.
 fn are_same_sets(alloc: Global, sets: &Sets, others: &Sets) -> Result<bool, AllocError>
     requires { IsZone (sets_of sets.now) × IsZone (sets_of others.now) }
-    ensures { IfOk result (λ same. IsTrue same → SameZone (zone_records (sets_of sets.now)) (zone_records (sets_of others.now))) }
+    ensures { IfOk result (λ same. IsTrue same →
+        SameZone (zone_records (sets_of sets.now)) (zone_records (sets_of others.now))) }
 {
     let mut left = others.iter();
     for (_, set) in sets {
@@ -108,7 +109,8 @@ fn are_same_sets(alloc: Global, sets: &Sets, others: &Sets) -> Result<bool, Allo
     Ok(left.next().is_none())
 }
 
-/// Whether two zones have the same records with the same TTLs, those of a name and type in whatever order. It takes time by the records of both.
+/// Whether two zones have the same records with the same TTLs, those of a name and type in whatever order. It takes
+/// time by the records of both.
 pub fn is_same_zone(
     alloc: Global,
     zone: &InMemoryZoneHandler,

@@ -52,9 +52,9 @@ pub(crate) fn is_same_but_serial(
     Ok(soa == other && soa.ttl == other.ttl)
 }
 
-/// The SOA records that take the place of one another until the last has the data of `soa` with this serial, of a zone that has the serial `from`: each is
-/// newer than the one before it (RFC 2136 section 3.4.2.2). That is one where the serial is greater than `from` (RFC 1982 section 3.2), and else up to four,
-/// which go once round all serials.
+/// The SOA records that take the place of one another until the last has the data of `soa` with this serial, of a zone
+/// that has the serial `from`: each is newer than the one before it (RFC 2136 section 3.4.2.2). That is one where the
+/// serial is greater than `from` (RFC 1982 section 3.2), and else up to four, which go once round all serials.
 pub(crate) fn soa_steps(
     alloc: Global,
     soa: &Record,

@@ -22,7 +22,8 @@ fn moment(seconds: u64) -> Option<Timestamp> {
     Timestamp::from_second(seconds).ok()
 }
 
-/// Prints the key of a signature and when it was made (RFC 8945 section 4.2), which is the number of seconds where the calendar has no such moment.
+/// Prints the key of a signature and when it was made (RFC 8945 section 4.2), which is the number of seconds where the
+/// calendar has no such moment.
 fn print_signature<R: Print>(rt: &R, signature: &Record<TSIG>) -> io::Result<()> {
     print!(rt; ", key: {}", signature.name)?;
     let seconds = signature.rdata.time;
@@ -42,7 +43,8 @@ fn print_serials<R: Print>(rt: &R, serials: Serials) -> io::Result<()> {
     }
 }
 
-/// Prints what a request asks for: the zone, who signed it if it is signed, the serials if they are known, and the records of the update section.
+/// Prints what a request asks for: the zone, who signed it if it is signed, the serials if they are known, and the
+/// records of the update section.
 fn print_update<R: Print>(
     rt: &R,
     request: &Request,

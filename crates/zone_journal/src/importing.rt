@@ -48,8 +48,8 @@ fn is_same_but_serial(
     Ok(is_same_zone(alloc, zone, &other)?)
 }
 
-/// Turns the zone into the other one, with the serial of that or the next one of its own. Where no more than the serial is another and it is not above, nothing
-/// is to be done.
+/// Turns the zone into the other one, with the serial of that or the next one of its own. Where no more than the serial
+/// is another and it is not above, nothing is to be done.
 fn turn<D: Disk>(
     alloc: Global,
     zone: &mut Zone,
@@ -69,7 +69,8 @@ fn turn<D: Disk>(
     Ok(Some(import(zone, journal, alloc, other)?))
 }
 
-/// Turns the zone of the journal in a file and the one beside it into the other one, and gives its serial of before and what was done.
+/// Turns the zone of the journal in a file and the one beside it into the other one, and gives its serial of before and
+/// what was done.
 pub fn import_zone(
     rt: &HostRuntime,
     file: &str,

@@ -8,8 +8,8 @@ use hickory_wire::{LowerName, Record, TSIG};
 use journal_entries::{Entry, zone_of};
 use std::alloc::{AllocError, Global};
 
-/// Text as a string of JSON. Names and data are printed in ASCII without control characters, so that quotes and backslashes alone stand
-/// behind a backslash.
+/// Text as a string of JSON. Names and data are printed in ASCII without control characters, so that quotes and
+/// backslashes alone stand behind a backslash.
 fn quoted(alloc: Global, text: &str) -> Result<String, AllocError> {
     let mut string = String::new(alloc);
     string.push('"')?;
@@ -43,7 +43,8 @@ fn array(alloc: Global, records: &[Record]) -> Result<String, AllocError> {
     Ok(string)
 }
 
-/// The members of an object that say by which key a request was signed and when, in seconds since 1970, each behind a comma; none where it was not.
+/// The members of an object that say by which key a request was signed and when, in seconds since 1970, each behind a
+/// comma; none where it was not.
 fn signature_members(
     alloc: Global,
     signature: Option<&Record<TSIG>>,
@@ -56,7 +57,8 @@ fn signature_members(
     format!(in alloc; ", \"key\": {name}, \"signed\": {}", signature.rdata.time)
 }
 
-/// The members of an object that say which serials there are before an update and behind it, each behind a comma; none where they are not known.
+/// The members of an object that say which serials there are before an update and behind it, each behind a comma; none
+/// where they are not known.
 fn serial_members(alloc: Global, serials: Option<Serials>) -> Result<String, AllocError> {
     let Some(Serials { before, behind }) = serials else {
         return Ok(String::new(alloc));
@@ -97,7 +99,8 @@ fn members(alloc: Global, entry: &Entry, serials: Option<Serials>) -> Result<Str
     }
 }
 
-/// Prints an entry by its number, from 1 on, its place and its length, an update with the serials if they are known, as an object.
+/// Prints an entry by its number, from 1 on, its place and its length, an update with the serials if they are known, as
+/// an object.
 pub fn print_object<R: Print + Alloc<A = Global>>(
     rt: &R,
     number: usize,

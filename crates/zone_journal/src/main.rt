@@ -1,14 +1,16 @@
 //! What stands in a journal of updates.
 //!
-//! `zone_journal list FILE` prints its entries with the records of their updates and the serials that these lead to, with `--json` an
-//! object of JSON for each, `zone_journal check FILE` whether it is whole, and `zone_journal zone ORIGIN FILE --zone-file ZONE` the records
-//! of the zone at its end, or at a serial behind `--serial`. These write no file, and lock none. `zone_journal compact ORIGIN FILE --zone-file ZONE`
-//! locks FILE and FILE-wal, the two files of a journal, and compacts it, and `zone_journal import ORIGIN FILE --zone-file ZONE` turns its zone into the one of
-//! ZONE, as one update. `zone_journal --version` prints its name and version, and
-//! `zone_journal --help` how it is started.
+//! `zone_journal list FILE` prints its entries with the records of their updates and the serials that these lead to,
+//! with `--json` an object of JSON for each, `zone_journal check FILE` whether it is whole, and `zone_journal zone
+//! ORIGIN FILE --zone-file ZONE` the records of the zone at its end, or at a serial behind `--serial`. These write no
+//! file, and lock none. `zone_journal compact ORIGIN FILE --zone-file ZONE` locks FILE and FILE-wal, the two files of a
+//! journal, and compacts it, and `zone_journal import ORIGIN FILE --zone-file ZONE` turns its zone into the one of
+//! ZONE, as one update. `zone_journal --version` prints its name and version, and `zone_journal --help` how it is
+//! started.
 //!
-//! The status is 0, 1 where bytes behind the entries count for nothing, 2 for wrong arguments, 3 without memory, 4 where the output fails,
-//! and 5 where the journal has a fault or a file is not taken, which is told on the standard error.
+//! The status is 0, 1 where bytes behind the entries count for nothing, 2 for wrong arguments, 3 without memory, 4
+//! where the output fails, and 5 where the journal has a fault or a file is not taken, which is told on the standard
+//! error.
 #![tactic(auto)]
 
 ghost use Rattle.std.specs.Prelude.{IfOk};

@@ -17,7 +17,8 @@ pub struct Serials {
     pub behind: u32,
 }
 
-/// The zone that the entries of a journal make, from the snapshot that it begins with up to the first entry that cannot be done again.
+/// The zone that the entries of a journal make, from the snapshot that it begins with up to the first entry that cannot
+/// be done again.
 #[derive(Drop)]
 pub struct Followed {
     /// The apex that the snapshot tells of.
@@ -87,7 +88,8 @@ impl Followed {
         Ok(Some(Serials { before, behind }))
     }
 
-    /// Goes on to an entry, the last of these, which are those of the journal up to it. Of an update that was done again it gives the serials.
+    /// Goes on to an entry, the last of these, which are those of the journal up to it. Of an update that was done
+    /// again it gives the serials.
     pub fn step(
         &mut self,
         alloc: Global,

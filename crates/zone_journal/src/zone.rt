@@ -5,7 +5,7 @@ use crate::zone_file::read_zone_of;
 use durable_updates::{recall, recall_to};
 use hickory_base::zone_store::{AxfrPolicy, InMemoryZoneHandler, RecordSet, ZoneType};
 use hickory_server::server::NoKeys;
-use hickory_store::sqlite::SqliteZoneHandler;
+use hickory_store::updates::UpdatableZoneHandler;
 use hickory_wire::{LowerName, Name};
 use std::alloc::{AllocError, Global};
 use std::collections::BTreeMap;
@@ -13,7 +13,7 @@ use std::io;
 use std::rt::Files;
 
 /// A zone that nobody may change by a request, for the entries of a journal.
-pub type Zone = SqliteZoneHandler<NoKeys>;
+pub type Zone = UpdatableZoneHandler<NoKeys>;
 
 /// A zone without records, whose place those of a snapshot take.
 pub fn empty_zone(alloc: Global, origin: &Name) -> Result<Zone, AllocError> {
@@ -24,7 +24,7 @@ pub fn empty_zone(alloc: Global, origin: &Name) -> Result<Zone, AllocError> {
         ZoneType::Primary,
         AxfrPolicy::Deny,
     );
-    Ok(SqliteZoneHandler::new(zone, AxfrPolicy::Deny, false, NoKeys))
+    Ok(UpdatableZoneHandler::new(zone, AxfrPolicy::Deny, false, NoKeys))
 }
 
 /// The zone of a zone file.
@@ -34,7 +34,7 @@ pub fn zone_of_file<R: Files + Eprint + Alloc<A = Global>>(
     file: &str,
 ) -> Result<Zone, Fault> {
     let zone = read_zone_of(rt, origin, file)?;
-    Ok(SqliteZoneHandler::new(zone, AxfrPolicy::Deny, false, NoKeys))
+    Ok(UpdatableZoneHandler::new(zone, AxfrPolicy::Deny, false, NoKeys))
 }
 
 /// Does the entries of a journal to a zone: all, or those up to a serial.

@@ -22,7 +22,8 @@ fn refusal_of(e: &io::Error) -> FileRefusal {
     }
 }
 
-/// The files of the system by their paths, of which one that does not begin with `/` is below the folder that the program runs in.
+/// The files of the system by their paths, of which one that does not begin with `/` is below the folder that the
+/// program runs in.
 #[derive(Drop)]
 struct FilesByPath<'a, R> {
     rt: &'a R,
@@ -73,7 +74,8 @@ fn records_of<R: Files + Eprint + Alloc<A = Global>>(
     }
 }
 
-/// The zone of this apex that a zone file has with the files that it includes. A fault in one of these is told on the standard error.
+/// The zone of this apex that a zone file has with the files that it includes. A fault in one of these is told on the
+/// standard error.
 pub fn read_zone_of<R: Files + Eprint + Alloc<A = Global>>(
     rt: &R,
     origin: &Name,

@@ -9,8 +9,8 @@ use Rattle.wire_names.specs.declared.error.ProtoError.{ProtoError}
 use Rattle.wire_messages.specs.declared.protocol.Protocol.{Protocol}
 use Rattle.access_control.specs.Access.{AccessSets, IsAllowed, IsLongestMatch, Network, address_of, canonical}
 use Rattle.hickory_base.specs.requests.RequestReading.{IsFaultOf}
-use Rattle.hickory_catalog.specs.Server.{Server}
-use Rattle.hickory_server.specs.Serving.{LeavesUnserved, Run, RunFailed, Step, denied, handled, next, none, unreadable}
+use Rattle.hickory_catalog.specs.requests.Server.{Server}
+use Rattle.hickory_server.specs.server.Serving.{LeavesUnserved, Run, RunFailed, Step, denied, handled, next, none, unreadable}
 use Rattle.hickory_server.specs.declared.server.serve.Incoming.{Incoming}
 use Rattle.hickory_server.specs.declared.server.serve.Outcome.{Outcome}
 use Rattle.hickory_server.specs.declared.server.serve.Outcome.TheVariants.{Replies}

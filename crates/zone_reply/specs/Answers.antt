@@ -11,8 +11,8 @@ use Rattle.wire_names.specs.declared.error.ProtoError.{ProtoError}
 use Rattle.wire_messages.specs.declared.protocol.Protocol.{Protocol}
 use Rattle.hickory_base.specs.requests.RequestReading.{IsFaultOf}
 use Rattle.access_control.specs.Access.{AccessSets, Network}
-use Rattle.hickory_catalog.specs.Server.{Server}
-use Rattle.hickory_server.specs.Serving.{LeavesUnserved, Step}
+use Rattle.hickory_catalog.specs.requests.Server.{Server}
+use Rattle.hickory_server.specs.server.Serving.{LeavesUnserved, Step}
 use Rattle.hickory_server.specs.declared.server.serve.Incoming.{Incoming}
 use Rattle.hickory_server.specs.declared.server.serve.Outcome.{Outcome}
 use Rattle.hickory_server.specs.declared.server.serve.Outcome.TheVariants.{Replies}
@@ -39,7 +39,8 @@ pub record IsIncoming (protocol : Protocol) (bytes : List ℕ) (message : Incomi
   pub protocol_is : message.protocol ≡ protocol
   pub now_is : message.now ≡ 0
 
--- What becomes of the message of these bytes, which comes alone, and the zones after it, where each address may use the server.
+-- What becomes of the message of these bytes, which comes alone, and the zones after it, where each address may use the
+-- server.
 pub record Becomes {H : Type 0} (server : Server H) (protocol : Protocol) (bytes : List ℕ) (outcome : Outcome) (zones : List (DomainName × List H)) : Type 0 where
   pub message : Incoming
   pub is_incoming : IsIncoming protocol bytes message
@@ -56,7 +57,8 @@ pub record Fails {H : Type 0} (server : Server H) (protocol : Protocol) (bytes :
   pub e : ServeError
   pub left : LeavesUnserved access server message e zones ⊎ ((e ≡ serve_error.Memory) × (zones ≡ server.zones))
 
--- The zones after a message: as before, or as it left them, with its outcome or without memory for it. Only an update changes any.
+-- The zones after a message: as before, or as it left them, with its outcome or without memory for it. Only an update
+-- changes any.
 abbrev pub MessageLeft : {H : Type 0} → Server H → Protocol → List ℕ → List (DomainName × List H) → Type 0
 MessageLeft server protocol bytes zones = (zones ≡ server.zones) ⊎ (((outcome : Outcome) × Becomes server protocol bytes outcome zones) ⊎ Fails server protocol bytes zones)
 
@@ -67,7 +69,8 @@ IsRefusedMessage message Memory = Unit {0}
 IsRefusedMessage message Usage = ⊥
 IsRefusedMessage message NotHex = ⊥
 
--- The message is what the first line of the input, which ends in LF or CR LF, spells in hex digits, where the input is known.
+-- The message is what the first line of the input, which ends in LF or CR LF, spells in hex digits, where the input is
+-- known.
 abbrev pub IsFirstMessage : Option (List ℕ) → List ℕ → Type 0
 IsFirstMessage input message = IfSome input (λ bytes. decode_of (first_line bytes) ≡ Ok message)
 
@@ -83,7 +86,8 @@ IsRefusedInput Memory = Unit {0}
 IsRefusedInput Usage = ⊥
 IsRefusedInput Unreadable = ⊥
 
--- The lines are those of the replies that become of the message of the input, over the transport that the arguments name.
+-- The lines are those of the replies that become of the message of the input, over the transport that the arguments
+-- name.
 pub record AreReplyLines {H : Type 0} (server : Server H) (arguments : List (List ℕ)) (input : Option (List ℕ)) (lines : List ℕ) (zones : List (DomainName × List H)) : Type 0 where
   pub protocol : Protocol
   pub is_named : command_of arguments ≡ Some (Answer protocol)
@@ -97,8 +101,9 @@ pub record AreReplyLines {H : Type 0} (server : Server H) (arguments : List (Lis
 abbrev pub AreOwnLines : List (List ℕ) → List ℕ → Type 0
 AreOwnLines arguments lines = ((command_of arguments ≡ Some Version) × (lines ≡ version_line)) ⊎ ((command_of arguments ≡ Some Help) × (lines ≡ help_lines))
 
--- What is answered: the lines of the replies, or what the program tells of itself, or why there are none. A reader may fail at any time once the
--- arguments name a transport, and memory may be refused at any time once they name a command. The zones are those after it.
+-- What is answered: the lines of the replies, or what the program tells of itself, or why there are none. A reader may
+-- fail at any time once the arguments name a transport, and memory may be refused at any time once they name a command.
+-- The zones are those after it.
 abbrev pub IsAnswer : {H : Type 0} → Server H → List (List ℕ) → Option (List ℕ) → Result (List ℕ) Refusal → List (DomainName × List H) → Type 0
 IsAnswer server arguments input (Ok lines) zones = AreReplyLines server arguments input lines zones ⊎ AreOwnLines arguments lines
 IsAnswer server arguments input (Err Usage) zones = command_of arguments ≡ None

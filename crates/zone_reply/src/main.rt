@@ -1,6 +1,6 @@
-//! One DNS message in, its replies out: `zone_reply udp|tcp` reads a message as a line of hex digits, and prints each reply as
-//! one; only a transfer has several. It serves the zone example.com., as the server `ns1`. `zone_reply --version` prints its name and version,
-//! and `zone_reply --help` how it is started.
+//! One DNS message in, its replies out: `zone_reply udp|tcp` reads a message as a line of hex digits, and prints each
+//! reply as one; only a transfer has several. It serves the zone example.com., as the server `ns1`. `zone_reply
+//! --version` prints its name and version, and `zone_reply --help` how it is started.
 #![tactic(auto)]
 
 mod command;

@@ -2,7 +2,7 @@
 
 ghost use Rattle.std.specs.Prelude.{◌≡◌, ◌∷◌, ◌⊎◌, [], ℕ, List, Result, IfOk, IfErr, map, string_bytes};
 ghost use Rattle.hex_lines.specs.Lines.{hex_lines};
-ghost use Rattle.hickory_catalog.specs.Server.{server_of};
+ghost use Rattle.hickory_catalog.specs.requests.Server.{server_of};
 ghost use Rattle.hickory_server.specs.declared.server.serve.Outcome.{Outcome};
 ghost use Rattle.hickory_server.specs.declared.server.serve.Outcome.TheVariants.{Replies};
 ghost use Rattle.zone_reply.specs.Answers.{Becomes, InputLeft, IsAnswer, IsIncoming, IsRefusedMessage, MessageLeft, answer_line, answer_status, line_items};
@@ -41,8 +41,10 @@ fn outcome<S: ReplySigner, H: ZoneHandler>(
     bytes: Vec<u8>,
 ) -> Result<Vec<Outcome>, Refusal>
     ensures others { catalog.new ≡ record catalog.old { zones = catalog.new.zones } }
-    ensures left { MessageLeft (server_of H.ZoneHandler S.signature_for catalog.old) protocol bytes.items catalog.new.zones }
-    ensures ok { IfOk result (λ outcomes. (outcome : Outcome) × (outcomes.items ≡ outcome ∷ []) × Becomes (server_of H.ZoneHandler S.signature_for catalog.old) protocol bytes.items outcome catalog.new.zones) }
+    ensures left { MessageLeft (server_of H.ZoneHandler S.signature_for catalog.old) protocol bytes.items
+        catalog.new.zones }
+    ensures ok { IfOk result (λ outcomes. (outcome : Outcome) × (outcomes.items ≡ outcome ∷ []) ×
+        Becomes (server_of H.ZoneHandler S.signature_for catalog.old) protocol bytes.items outcome catalog.new.zones) }
     ensures err { IfErr result (λ e. e ≡ Memory) }
 {
     let mut messages = Vec::new(alloc);
@@ -56,8 +58,10 @@ fn outcome<S: ReplySigner, H: ZoneHandler>(
 
 /// The lines for what became of a message: it has replies, or it is no message.
 fn outcome_lines(alloc: Global, outcomes: &[Outcome]) -> Result<Vec<u8>, Refusal>
-    ensures ok { IfOk result (λ lines. (encoded : List (List ℕ)) × (outcomes.now ≡ Replies encoded ∷ []) × (lines.items ≡ hex_lines encoded)) }
-    ensures err { IfErr result (λ e. (e ≡ Memory) ⊎ ((e ≡ Unreadable) × ((encoded : List (List ℕ)) → ¬ (outcomes.now ≡ Replies encoded ∷ [])))) }
+    ensures ok { IfOk result (λ lines. (encoded : List (List ℕ)) × (outcomes.now ≡ Replies encoded ∷ []) ×
+        (lines.items ≡ hex_lines encoded)) }
+    ensures err { IfErr result (λ e. (e ≡ Memory) ⊎
+        ((e ≡ Unreadable) × ((encoded : List (List ℕ)) → ¬ (outcomes.now ≡ Replies encoded ∷ [])))) }
 {
     match outcomes {
         [Outcome::Replies(replies)] => Ok(lines_of(alloc, replies.as_slice())?),
@@ -73,8 +77,11 @@ fn reply_lines<S: ReplySigner, H: ZoneHandler>(
     message: Vec<u8>,
 ) -> Result<Vec<u8>, Refusal>
     ensures others { catalog.new ≡ record catalog.old { zones = catalog.new.zones } }
-    ensures left { MessageLeft (server_of H.ZoneHandler S.signature_for catalog.old) protocol message.items catalog.new.zones }
-    ensures ok { IfOk result (λ lines. (encoded : List (List ℕ)) × Becomes (server_of H.ZoneHandler S.signature_for catalog.old) protocol message.items (Replies encoded) catalog.new.zones × (lines.items ≡ hex_lines encoded)) }
+    ensures left { MessageLeft (server_of H.ZoneHandler S.signature_for catalog.old) protocol message.items
+        catalog.new.zones }
+    ensures ok { IfOk result (λ lines. (encoded : List (List ℕ)) ×
+        Becomes (server_of H.ZoneHandler S.signature_for catalog.old) protocol message.items
+        (Replies encoded) catalog.new.zones × (lines.items ≡ hex_lines encoded)) }
     ensures err { IfErr result (λ e. IsRefusedMessage message.items e) }
 {
     let outcomes = outcome(alloc, catalog, protocol, message)?;
@@ -89,8 +96,10 @@ fn answer<S: ReplySigner, H: ZoneHandler, R: Read>(
     reader: &mut R,
 ) -> Result<Vec<u8>, Refusal>
     ensures others { catalog.new ≡ record catalog.old { zones = catalog.new.zones } }
-    ensures left { InputLeft (server_of H.ZoneHandler S.signature_for catalog.old) (map string_bytes arguments.now) (R.remaining reader.old) catalog.new.zones }
-    ensures answer { IsAnswer (server_of H.ZoneHandler S.signature_for catalog.old) (map string_bytes arguments.now) (R.remaining reader.old) (line_items result) catalog.new.zones }
+    ensures left { InputLeft (server_of H.ZoneHandler S.signature_for catalog.old) (map string_bytes arguments.now)
+        (R.remaining reader.old) catalog.new.zones }
+    ensures answer { IsAnswer (server_of H.ZoneHandler S.signature_for catalog.old) (map string_bytes arguments.now)
+        (R.remaining reader.old) (line_items result) catalog.new.zones }
 {
     match command_of(arguments) {
         None => Err(Refusal::Usage),
@@ -103,13 +112,13 @@ fn answer<S: ReplySigner, H: ZoneHandler, R: Read>(
     }
 }
 
-/// Answers one message: prints a line for each reply, and gives the status. The arguments name the transport, `udp` or `tcp`; the
-/// first line of the input is the message in hex digits. Where the argument is `--version`, the program's name and version is printed, where it
-/// is `--help` or `-h`, how it is started, and nothing is read.
+/// Answers one message: prints a line for each reply, and gives the status. The arguments name the transport, `udp` or
+/// `tcp`; the first line of the input is the message in hex digits. Where the argument is `--version`, the program's
+/// name and version is printed, where it is `--help` or `-h`, how it is started, and nothing is read.
 ///
-/// Each line is a reply in lower-case hex digits, with status 0, and only a transfer may have several; or the one line is a refusal with its
-/// status: wrong usage 2, no hex 2, no DNS message 1, no memory 3. Where printing fails, the status is 4. Only an update
-/// changes the catalog, and it may stand where there was no memory for its reply.
+/// Each line is a reply in lower-case hex digits, with status 0, and only a transfer may have several; or the one line
+/// is a refusal with its status: wrong usage 2, no hex 2, no DNS message 1, no memory 3. Where printing fails, the
+/// status is 4. Only an update changes the catalog, and it may stand where there was no memory for its reply.
 pub fn run<S: ReplySigner, H: ZoneHandler, R: Read, W: Write>(
     alloc: Global,
     catalog: &mut Catalog<S, H>,
@@ -118,9 +127,11 @@ pub fn run<S: ReplySigner, H: ZoneHandler, R: Read, W: Write>(
     writer: &mut W,
 ) -> u8
     ensures others { catalog.new ≡ record catalog.old { zones = catalog.new.zones } }
-    ensures left { InputLeft (server_of H.ZoneHandler S.signature_for catalog.old) (map string_bytes arguments.now) (R.remaining reader.old) catalog.new.zones }
+    ensures left { InputLeft (server_of H.ZoneHandler S.signature_for catalog.old) (map string_bytes arguments.now)
+        (R.remaining reader.old) catalog.new.zones }
     ensures prints { (answer : Result (List ℕ) Refusal) ×
-        IsAnswer (server_of H.ZoneHandler S.signature_for catalog.old) (map string_bytes arguments.now) (R.remaining reader.old) answer catalog.new.zones ×
+        IsAnswer (server_of H.ZoneHandler S.signature_for catalog.old) (map string_bytes arguments.now)
+        (R.remaining reader.old) answer catalog.new.zones ×
         IsPrinted (W.contents writer.old) (W.contents writer.new) (answer_line answer) (answer_status answer) result }
 {
     match answer(alloc, catalog, arguments, reader) {

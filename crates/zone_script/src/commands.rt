@@ -1,7 +1,7 @@
 //! The commands, by their subjects.
 //!
-//! Each subject has a function `obey`, which is given the words of a line, the line without the blanks around it, and the
-//! text to put behind what is printed; it obeys the line if that is one of its commands, and else gives `None`.
+//! Each subject has a function `obey`, which is given the words of a line, the line without the blanks around it, and
+//! the text to put behind what is printed; it obeys the line if that is one of its commands, and else gives `None`.
 
 use script_handlers::state::Zones;
 use script_requests::{asking, calling, sections, updatable, updating};

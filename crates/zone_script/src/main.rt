@@ -3,8 +3,8 @@
 //!
 //! `zone_script --version` prints its name and version, and `zone_script --help` the forms of all commands.
 //!
-//! The status is 0 where all lines were obeyed, 1 where some was not, 2 where there are other arguments, 3 where memory was
-//! refused, and 4 where reading or printing failed.
+//! The status is 0 where all lines were obeyed, 1 where some was not, 2 where there are other arguments, 3 where memory
+//! was refused, and 4 where reading or printing failed.
 #![tactic(auto)]
 
 mod commands;

@@ -1,10 +1,11 @@
--- Lists that are put on a list of blocked names, zones that are loaded, and journals that are opened, one after the other.
+-- Lists that are put on a list of blocked names, zones that are loaded, and journals that are opened, one after the
+-- other.
 use Rattle.std.proofs.Common.{◌≡◌, ◌<◌, ◌+◌, ◌++◌, ◌∷◌, [], ℕ, List, Bor, Option, Some, None, Result, Ok, Err, IfOk, IsNone, OnOk, length, length-append, get_or, take, map, refl, sym, ap, ◌∙◌, subst, append_assoc, option_map}
 use Rattle.std.proofs.lemmas.Bool.{false≢true}
 use Rattle.std.proofs.lemmas.List.{append-nil, length-map, map-append, take_more}
 use Rattle.std.specs.Option.{option_copied}
 use Rattle.wire_names.specs.rr.domain.DomainName.{DomainName}
-use Rattle.hickory_store.specs.BlockAnswers.{Blocklist}
+use Rattle.hickory_store.specs.blocklist.BlockAnswers.{Blocklist}
 use Rattle.name_lists.specs.Adding.{AddsList}
 use Rattle.name_lists.specs.Counts.{Counts}
 use Rattle.hickory_catalog.specs.declared.catalog.Catalog.{Catalog}

@@ -4,13 +4,14 @@ use Rattle.std.proofs.lemmas.List.{take_more}
 use Rattle.std.specs.Prelude.{◌==◌}
 use Rattle.std.specs.declared.alloc.Global.{Global}
 use Rattle.wire_names.specs.rr.domain.DomainName.{DomainName}
-use Rattle.hickory_catalog.specs.Signing.{Signer}
+use Rattle.hickory_catalog.specs.replies.Signing.{Signer}
 use Rattle.hickory_base.specs.declared.zone_store.handler.ZoneHandler.{Ghosts}
 use Rattle.signed_server.specs.declared.service.SignedServer.{SignedServer}
 use Rattle.zone_serve.specs.Groups.{Begun, EachServed, GroupServed, contents}
 use Rattle.zone_serve.specs.Groups.EachServed.{more}
 use Rattle.zone_serve.specs.Groups.GroupServed.{as_lines, as_one}
-use Rattle.zone_serve.specs.Served.{LineServed, Service, Stays, over, service_of}
+use Rattle.signed_server.specs.KeyedServers.{KeyedServer, keyed_of, over}
+use Rattle.zone_serve.specs.Served.{LineServed, Stays}
 use Rattle.zone_serve.proofs.Servers.{same_service}
 
 true_is_false : false ≡ true → ⊥
@@ -44,24 +45,24 @@ some_lines (x ∷ lines) other is = cons_is_nil is
 
 module _ {S H : Type 0} (handler : Ghosts H) (signature_for : S → Signer) (first middle last : SignedServer S H) (stays : Stays first middle) where
   pub each_more : (lines : List (Vec ℕ Global)) (place : ℕ) (line : Vec ℕ Global) (written back more_written : List ℕ) (tells : Bool) → place < length lines → line ≡ get_or lines place line
-      → EachServed (service_of handler signature_for first) (contents (take place lines)) written middle.server.catalog.zones
-      → LineServed (service_of handler signature_for middle) line.items back last.server.catalog.zones tells → more_written ≡ written ++ back
-      → EachServed (service_of handler signature_for first) (contents (take (place + 1) lines)) more_written last.server.catalog.zones
+      → EachServed (keyed_of handler signature_for first) (contents (take place lines)) written middle.server.catalog.zones
+      → LineServed (keyed_of handler signature_for middle) line.items back last.server.catalog.zones tells → more_written ≡ written ++ back
+      → EachServed (keyed_of handler signature_for first) (contents (take (place + 1) lines)) more_written last.server.catalog.zones
   each_more lines place line written back more_written tells inside is so_far served appended =
-      subst (λ (l : List (List ℕ)). EachServed (service_of handler signature_for first) l more_written last.server.catalog.zones) (sym (contents_more lines place line inside is))
-      (subst (λ (w : List ℕ). EachServed (service_of handler signature_for first) (contents (take place lines) ++ line.items ∷ []) w last.server.catalog.zones) (sym appended)
+      subst (λ (l : List (List ℕ)). EachServed (keyed_of handler signature_for first) l more_written last.server.catalog.zones) (sym (contents_more lines place line inside is))
+      (subst (λ (w : List ℕ). EachServed (keyed_of handler signature_for first) (contents (take place lines) ++ line.items ∷ []) w last.server.catalog.zones) (sym appended)
       (more (contents (take place lines)) written line.items back tells so_far
-      (subst (λ (s : Service H). LineServed s line.items back last.server.catalog.zones tells) (same_service handler signature_for first middle stays) served)))
+      (subst (λ (s : KeyedServer H). LineServed s line.items back last.server.catalog.zones tells) (same_service handler signature_for first middle stays) served)))
 
 module _ {S H : Type 0} (handler : Ghosts H) (signature_for : S → Signer) (begins settles : List (DomainName × List H) → List (DomainName × List H) → Type 0)
     (first held : SignedServer S H) (stays : Stays first held) (lines : List (List ℕ)) (written : List ℕ) where
-  pub settled : (ahead zones : List (DomainName × List H)) → Begun begins first.server.catalog.zones held.server.catalog.zones true → EachServed (service_of handler signature_for held) lines written ahead → settles ahead zones
-      → GroupServed begins settles (service_of handler signature_for first) lines written zones
+  pub settled : (ahead zones : List (DomainName × List H)) → Begun begins first.server.catalog.zones held.server.catalog.zones true → EachServed (keyed_of handler signature_for held) lines written ahead → settles ahead zones
+      → GroupServed begins settles (keyed_of handler signature_for first) lines written zones
   settled ahead zones begun served written_out =
-      as_one begun (subst (λ (s : Service H). EachServed s lines written ahead) (same_service handler signature_for first held stays) served) written_out
+      as_one begun (subst (λ (s : KeyedServer H). EachServed s lines written ahead) (same_service handler signature_for first held stays) served) written_out
 
-  pub as_ever : (zones : List (DomainName × List H)) → Begun begins first.server.catalog.zones held.server.catalog.zones false → EachServed (service_of handler signature_for held) lines written zones
-      → GroupServed begins settles (service_of handler signature_for first) lines written zones
+  pub as_ever : (zones : List (DomainName × List H)) → Begun begins first.server.catalog.zones held.server.catalog.zones false → EachServed (keyed_of handler signature_for held) lines written zones
+      → GroupServed begins settles (keyed_of handler signature_for first) lines written zones
   as_ever zones same served =
-      as_lines (subst (λ (s : Service H). EachServed s lines written zones)
-      (same_service handler signature_for first held stays ∙ ap (over (service_of handler signature_for first)) same) served)
+      as_lines (subst (λ (s : KeyedServer H). EachServed s lines written zones)
+      (same_service handler signature_for first held stays ∙ ap (over (keyed_of handler signature_for first)) same) served)

@@ -1,10 +1,11 @@
 -- What stays of a server from call to call.
 use Rattle.std.proofs.Common.{◌≡◌, ap, ◌∙◌, refl}
 use Rattle.hickory_base.specs.declared.zone_store.handler.ZoneHandler.{Ghosts}
-use Rattle.hickory_catalog.specs.Signing.{Signer}
+use Rattle.hickory_catalog.specs.replies.Signing.{Signer}
 use Rattle.hickory_catalog.specs.declared.catalog.Catalog.{Catalog}
 use Rattle.signed_server.specs.declared.service.SignedServer.{SignedServer}
-use Rattle.zone_serve.specs.Served.{Stays, over, service_of}
+use Rattle.signed_server.specs.KeyedServers.{keyed_of, over}
+use Rattle.zone_serve.specs.Served.{Stays}
 
 pub stays_on : {S H : Type 0} (first middle last : SignedServer S H) → Stays first middle → Stays middle last → Stays first last
 stays_on {S} {H} first middle last so_far step = record {
@@ -19,5 +20,5 @@ stays_so server = record { keys = refl; transfer_keys = refl; rules = refl; othe
 
 -- A server of which this stayed is the same over its own zones.
 pub same_service : {S H : Type 0} (handler : Ghosts H) (signature_for : S → Signer) (first middle : SignedServer S H) → Stays first middle
-    → service_of handler signature_for middle ≡ over (service_of handler signature_for first) middle.server.catalog.zones
+    → keyed_of handler signature_for middle ≡ over (keyed_of handler signature_for first) middle.server.catalog.zones
 same_service handler signature_for first middle stays = rw (stays.keys, stays.transfer_keys, stays.rules, stays.others) refl

@@ -11,7 +11,8 @@ AreBlanks xs = AllPass is_ascii_whitespace xs
 blanks : (xs ys : List ℕ) → AreBlanks xs → AreBlanks ys → AreBlanks (xs ++ ys)
 blanks xs ys first second = All-append (λ (x : ℕ). is_ascii_whitespace x ≡ true) xs ys first second
 
--- Three words that come off a text one after the other, with blanks before and behind each, are all of it where blanks alone are left.
+-- Three words that come off a text one after the other, with blanks before and behind each, are all of it where blanks
+-- alone are left.
 pub three_words : (text x y z gap sep rest gap2 sep2 rest2 gap3 sep3 rest3 : List ℕ)
     → text ≡ gap ++ (x ++ (sep ++ rest)) → rest ≡ gap2 ++ (y ++ (sep2 ++ rest2)) → rest2 ≡ gap3 ++ (z ++ (sep3 ++ rest3))
     → AreBlanks gap → AreBlanks sep → AreBlanks gap2 → AreBlanks sep2 → AreBlanks gap3 → AreBlanks sep3 → AreBlanks rest3 → AreWords text x y z

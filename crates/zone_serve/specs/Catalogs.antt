@@ -3,7 +3,7 @@ use Rattle.std.specs.Prelude.{◌≡◌, ◌∷◌, ◌≢◌, ◌<◌, ◌++◌
 use Rattle.std.specs.List.{AllZip, list_any}
 use Rattle.wire_names.specs.rr.domain.DomainName.{DomainName}
 use Rattle.wire_names.specs.rr.domain.NameOrder.{name_eq}
-use Rattle.hickory_store.specs.BlockAnswers.{Blocklist}
+use Rattle.hickory_store.specs.blocklist.BlockAnswers.{Blocklist}
 use Rattle.served_zones.specs.ServedZones.{AddsLists, AreJoined, AreLoaded, Chain, IsApexText, IsEmptyList}
 use Rattle.served_zones.specs.declared.parents.Loaded.{Loaded}
 use Rattle.access_control.specs.Access.{Network}
@@ -35,8 +35,8 @@ IsListOf count (Some list) = (0 < count) × (empty : Blocklist) × IsEmptyList e
 abbrev pub names_of : Settings → List (List ℕ)
 names_of settings = map (λ zone. zone.name.now) settings.zones.items
 
--- The zones that the arguments ask for, before one takes updates: each zone is loaded, in their order, and then each is put beside the one above it. Behind each
--- is the list of blocked names, which has those of all files with lists.
+-- The zones that the arguments ask for, before one takes updates: each zone is loaded, in their order, and then each is
+-- put beside the one above it. Behind each is the list of blocked names, which has those of all files with lists.
 pub record AreFixedZonesOf (settings : Settings) (loaded : List Loaded) (old new : List (DomainName × Chain)) : Type 0 where
   pub list : Option Blocklist
   pub list_is : IsListOf (length (files_of settings)) list
@@ -55,8 +55,8 @@ pub record IsGrantOf (keys : List Key) (argument : UpdateArgument) (grant : Gran
 abbrev pub is_loaded : List Loaded → DomainName → Bool
 is_loaded loaded apex = list_any (λ zone. name_eq zone.apex apex) loaded
 
--- The zones that the arguments ask for: of those of their files each that has a rule takes updates by the keys and its rules, and all others stay as they are. Each
--- rule is of one of them.
+-- The zones that the arguments ask for: of those of their files each that has a rule takes updates by the keys and its
+-- rules, and all others stay as they are. Each rule is of one of them.
 pub record AreZonesOf {D : Type 0} (settings : Settings) (keys : List Key) (old new : List (DomainName × UpdatedChain D)) : Type 0 where
   pub loaded : List Loaded
   pub fixed : List (DomainName × Chain)
@@ -65,14 +65,15 @@ pub record AreZonesOf {D : Type 0} (settings : Settings) (keys : List Key) (old 
   pub are_grants : AllZip (IsGrantOf keys) settings.updates.items grants
   pub of_zones : All (λ grant. IsTrue (is_loaded loaded grant.apex)) grants
   pub left : List (DomainName × Chain)
-  pub are_moved : AreMoved keys grants loaded fixed left old new
+  pub are_moved : AreMoved keys grants loaded (record { fixed = fixed; updated = old }) (record { fixed = left; updated = new })
 
 -- The keys where there is no file of keys, and those of a file: none, or some that can be used.
 abbrev pub AreKeysOf : Bool → List Key → Type 0
 AreKeysOf true keys = keys ≡ []
 AreKeysOf false keys = (keys ≢ []) × All IsUsable keys
 
--- The networks that may have no transfer: those of the arguments, and where keys may have transfers from anywhere, all but what is allowed by a longer prefix.
+-- The networks that may have no transfer: those of the arguments, and where keys may have transfers from anywhere, all
+-- but what is allowed by a longer prefix.
 abbrev pub denied_transfers : List (List ℕ) → List Network → List Network
 denied_transfers [] networks = networks
 denied_transfers (name ∷ names) networks = networks ++ all_networks

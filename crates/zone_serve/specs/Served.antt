@@ -7,43 +7,21 @@ use Rattle.std.specs.declared.net.ip_addr.IpAddr.{IpAddr}
 use Rattle.wire_messages.specs.declared.protocol.Protocol.{Protocol}
 use Rattle.wire_messages.specs.declared.protocol.Protocol.TheVariants.{Tcp, Udp}
 use Rattle.wire_names.specs.rr.domain.DomainName.{DomainName}
-use Rattle.hickory_base.specs.declared.zone_store.handler.ZoneHandler.{Ghosts}
-use Rattle.hickory_catalog.specs.Server.{Server, server_of}
-use Rattle.hickory_catalog.specs.Signing.{Signer}
 use Rattle.hickory_server.specs.declared.server.serve.Incoming.{Incoming}
 use Rattle.zone_serve.specs.Frames.{AreFrames, IsFrame}
 use Rattle.zone_serve.specs.Lines.{IsLineOf, answer_lines}
 use Rattle.hickory_server.specs.declared.server.answer.Answer.{Answer}
 use Rattle.hickory_server.specs.declared.server.answer.Answer.TheVariants.{Replies}
 use Rattle.zone_serve.specs.declared.lines.LineMessage.{LineMessage}
-use Rattle.hickory_server.specs.declared.server.rules.Rules.{Rules}
-use Rattle.tsig.specs.declared.keys.Key.{Key}
-use Rattle.signed_server.specs.ServedWithKeys.{ServedWithKeys, arrival}
+use Rattle.hickory_server.specs.server.ServedBy.{arrival}
+use Rattle.signed_server.specs.KeyedServers.{KeyedServer, over}
+use Rattle.signed_server.specs.ServedWithKeys.{ServedWithKeys}
 use Rattle.signed_server.specs.declared.service.SignedServer.{SignedServer}
 
--- A server with its keys, of which those of these names may have transfers from anywhere, and with its rules.
-pub record Service (H : Type 0) : Type 1 where
-  pub keys : List Key
-  pub transfer_keys : List DomainName
-  pub rules : Rules
-  pub server : Server H
-
-abbrev pub service_of : {S H : Type 0} → Ghosts H → (S → Signer) → SignedServer S H → Service H
-service_of handler signature_for signed = record {
-  keys = signed.keys;
-  transfer_keys = signed.transfer_keys.items;
-  rules = signed.server.rules;
-  server = server_of handler signature_for signed.server.catalog;
-}
-
--- the same over these zones
-abbrev pub over : {H : Type 0} → Service H → List (DomainName × List H) → Service H
-over service zones = record service { server = record service.server { zones = zones } }
-
 -- what becomes of a message, and the zones after it
-abbrev pub BecomesOf : {H : Type 0} → Service H → Incoming → Answer → List (DomainName × List H) → Type 0
+abbrev pub BecomesOf : {H : Type 0} → KeyedServer H → Incoming → Answer → List (DomainName × List H) → Type 0
 BecomesOf service message answer zones =
-    ServedWithKeys service.keys service.transfer_keys service.rules service.server (arrival message.bytes.items message.src message.protocol message.now) answer zones
+    ServedWithKeys service (arrival message.bytes.items message.src message.protocol message.now) answer zones
 
 -- Nothing of a server changes from call to call but its zones.
 pub record Stays {S H : Type 0} (first last : SignedServer S H) : Type 0 where
@@ -59,16 +37,16 @@ pub record IsFrom (protocol : Protocol) (address : IpAddr) (bytes : List ℕ) (m
   pub bytes_are : message.bytes.items ≡ bytes
 
 -- What becomes of the bytes of one datagram: what is written is its replies.
-pub record DatagramServed {H : Type 0} (service : Service H) (address : IpAddr) (datagram written : List ℕ) (zones : List (DomainName × List H)) : Type 0 where
+pub record DatagramServed {H : Type 0} (service : KeyedServer H) (address : IpAddr) (datagram written : List ℕ) (zones : List (DomainName × List H)) : Type 0 where
   pub message : Incoming
   pub came : IsFrom Udp address datagram message
   pub replies : List (List ℕ)
   pub answered : BecomesOf service message (Replies replies) zones
   pub written_is : written ≡ concat replies
 
--- What becomes of the messages of a stream: each is read behind its length, after those before it, and answered over the zones as they left them;
--- its replies are written behind their lengths, after theirs.
-pub data StreamServed {H : Type 0} (service : Service H) (address : IpAddr) : List ℕ → List ℕ → List (DomainName × List H) → Type 0 where
+-- What becomes of the messages of a stream: each is read behind its length, after those before it, and answered over
+-- the zones as they left them; its replies are written behind their lengths, after theirs.
+pub data StreamServed {H : Type 0} (service : KeyedServer H) (address : IpAddr) : List ℕ → List ℕ → List (DomainName × List H) → Type 0 where
   none : StreamServed service address [] [] service.server.zones
   more : (read written frame frames : List ℕ) {bytes : List ℕ} {replies : List (List ℕ)} {message : Incoming} {between zones : List (DomainName × List H)}
       → StreamServed service address read written between
@@ -78,13 +56,14 @@ pub data StreamServed {H : Type 0} (service : Service H) (address : IpAddr) : Li
       → StreamServed service address (read ++ frame) (written ++ frames) zones
 
 -- What becomes of what comes next on a stream: a message, or nothing, at its end.
-abbrev pub NextServed : {H : Type 0} → Service H → IpAddr → List ℕ → List ℕ → List (DomainName × List H) → Bool → Type 0
+abbrev pub NextServed : {H : Type 0} → KeyedServer H → IpAddr → List ℕ → List ℕ → List (DomainName × List H) → Bool → Type 0
 NextServed service address read written zones true = (bytes : List ℕ) × IsFrame read bytes × (message : Incoming) × IsFrom Tcp address bytes message
     × (replies : List (List ℕ)) × BecomesOf service message (Replies replies) zones × AreFrames written replies
 NextServed service address read written zones false = (read ≡ []) × (written ≡ []) × (zones ≡ service.server.zones)
 
--- What becomes of a line: what becomes of the message that it tells is written as lines, or `bad line`, where it tells none.
-abbrev pub LineServed : {H : Type 0} → Service H → List ℕ → List ℕ → List (DomainName × List H) → Bool → Type 0
+-- What becomes of a line: what becomes of the message that it tells is written as lines, or `bad line`, where it tells
+-- none.
+abbrev pub LineServed : {H : Type 0} → KeyedServer H → List ℕ → List ℕ → List (DomainName × List H) → Bool → Type 0
 LineServed service line written zones true = (told : LineMessage) × IsLineOf line told × (message : Incoming) × IsFrom told.protocol told.address told.bytes.items message
     × (answer : Answer) × BecomesOf service message answer zones × (written ≡ answer_lines answer)
 LineServed service line written zones false = (written ≡ codes "bad line\n") × (zones ≡ service.server.zones)

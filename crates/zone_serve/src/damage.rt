@@ -34,8 +34,8 @@ fn entries_of<R: Files + Alloc<A = Global>>(rt: &R, file: &str) -> Option<Vec<Ve
     Some(found.entries)
 }
 
-/// Where the journal at a path is damaged: the first entry, of the file that counts, which may not stand in the journal of this zone. It is looked for as far as
-/// files and memory give.
+/// Where the journal at a path is damaged: the first entry, of the file that counts, which may not stand in the journal
+/// of this zone. It is looked for as far as files and memory give.
 pub fn find_damage<R: Files + Alloc<A = Global>>(
     rt: &R,
     path: &str,
@@ -52,8 +52,8 @@ pub fn find_damage<R: Files + Alloc<A = Global>>(
     Some(Damage { entry, is_second })
 }
 
-/// Whether what stands at a path is no journal's file, as far as it can be read: of the two files of a journal that is refused it is this one, or else the one
-/// beside it.
+/// Whether what stands at a path is no journal's file, as far as it can be read: of the two files of a journal that is
+/// refused it is this one, or else the one beside it.
 pub fn is_none_at<R: Files + Alloc<A = Global>>(rt: &R, path: &str) -> bool {
     match bytes_of(rt, path) {
         Ok(bytes) => !is_journal(&bytes),

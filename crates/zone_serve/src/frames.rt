@@ -91,7 +91,8 @@ const TOO_MANY: usize = 65_536;
 
 /// All bytes of an input that is one datagram. They are read to the end, and are at most 65,535.
 pub fn datagram<R: Read>(alloc: Global, reader: &mut R) -> Result<Vec<u8>, StreamFault>
-    ensures { IfOk result (λ bytes. Consumes (R.remaining reader.old) (R.remaining reader.new) bytes.items × IsAtEnd (R.remaining reader.new)) }
+    ensures { IfOk result (λ bytes. Consumes (R.remaining reader.old) (R.remaining reader.new) bytes.items ×
+        IsAtEnd (R.remaining reader.new)) }
 {
     let bytes = up_to(alloc, reader, TOO_MANY)?;
     if bytes.len() < TOO_MANY {
@@ -101,8 +102,8 @@ pub fn datagram<R: Read>(alloc: Global, reader: &mut R) -> Result<Vec<u8>, Strea
     }
 }
 
-/// Puts the next message of a stream in the place of other bytes, whose memory is used again; whether there is one before
-/// the stream's end. No byte behind the message is read.
+/// Puts the next message of a stream in the place of other bytes, whose memory is used again; whether there is one
+/// before the stream's end. No byte behind the message is read.
 // speed: served, an address
 pub fn next_message_in<R: Read>(reader: &mut R, message: &mut Vec<u8>) -> Result<bool, StreamFault>
     ensures { IfOk result (λ found. GivesNext (R.remaining reader.old) (R.remaining reader.new)

@@ -1,11 +1,12 @@
-//! Serving lines. Those that are at hand together are one group. Where zones hold the updates of a group, these are written together before any line of it is
-//! answered; else each line is answered before the next is served.
+//! Serving lines. Those that are at hand together are one group. Where zones hold the updates of a group, these are
+//! written together before any line of it is answered; else each line is answered before the next is served.
 
 ghost use Rattle.std.specs.Prelude.{◌≡◌, ◌++◌, [], ℕ, List, IfOk, IfSome, OnOk, Some};
 ghost use Rattle.std.specs.Io.KnownBytes.{Appends};
 ghost use Rattle.wire_names.specs.rr.domain.DomainName.{DomainName};
 ghost use Rattle.zone_serve.specs.Groups.{EachServed, GroupServed, LinesServed, NextLines, contents};
-ghost use Rattle.zone_serve.specs.Served.{AreLines, LineServed, Stays, service_of};
+ghost use Rattle.signed_server.specs.KeyedServers.{keyed_of};
+ghost use Rattle.zone_serve.specs.Served.{AreLines, LineServed, Stays};
 
 use crate::fault::Fault;
 use crate::lines::{BAD_LINE, answer_lines, read_line};
@@ -81,7 +82,8 @@ fn answer_line<S: ReplySigner, H: ZoneHandler>(
     line: &[u8],
 ) -> Result<(Vec<u8>, bool), Fault>
     ensures stays { Stays server.old server.new }
-    ensures served { IfOk result (λ told. LineServed (service_of H.ZoneHandler S.signature_for server.old) line.now told.0.items server.new.server.catalog.zones told.1) }
+    ensures served { IfOk result (λ told. LineServed (keyed_of H.ZoneHandler S.signature_for server.old) line.now
+        told.0.items server.new.server.catalog.zones told.1) }
 {
     let Some(message) = read_line(alloc, line)? else {
         let told = BAD_LINE.to_vec(alloc)?;
@@ -107,7 +109,8 @@ fn answer_each<S: ReplySigner, H: ZoneHandler>(
     lines: &[Vec<u8>],
 ) -> Result<Told, Fault>
     ensures stays { Stays server.old server.new }
-    ensures served { IfOk result (λ told. EachServed (service_of H.ZoneHandler S.signature_for server.old) (contents lines.now) told.answers.items server.new.server.catalog.zones) }
+    ensures served { IfOk result (λ told. EachServed (keyed_of H.ZoneHandler S.signature_for server.old)
+        (contents lines.now) told.answers.items server.new.server.catalog.zones) }
 {
     let mut answers = Vec::new(alloc);
     let mut bad = None;
@@ -130,7 +133,8 @@ fn answer_held<S: ReplySigner, H: ZoneHandler, O: Holder<S, H>>(
     lines: &[Vec<u8>],
 ) -> Result<Told, Fault>
     ensures stays { Stays server.old server.new }
-    ensures served { IfOk result (λ told. (ahead : List (DomainName × List H)) × EachServed (service_of H.ZoneHandler S.signature_for server.old) (contents lines.now) told.answers.items ahead ×
+    ensures served { IfOk result (λ told. (ahead : List (DomainName × List H)) ×
+        EachServed (keyed_of H.ZoneHandler S.signature_for server.old) (contents lines.now) told.answers.items ahead ×
         O.settles holder.now ahead server.new.server.catalog.zones) }
 {
     let told = answer_each(alloc, clock, server, lines)?;
@@ -147,7 +151,9 @@ fn serve_each<S: ReplySigner, H: ZoneHandler, W: Write>(
     writer: &mut W,
 ) -> Result<Option<usize>, Fault>
     ensures stays { Stays server.old server.new }
-    ensures served { OnOk result ((written : List ℕ) × EachServed (service_of H.ZoneHandler S.signature_for server.old) (contents lines.now) written server.new.server.catalog.zones ×
+    ensures served { OnOk result ((written : List ℕ) ×
+        EachServed (keyed_of H.ZoneHandler S.signature_for server.old)
+        (contents lines.now) written server.new.server.catalog.zones ×
         Appends (W.contents writer.old) (W.contents writer.new) written) }
 {
     let mut bad = None;
@@ -172,7 +178,8 @@ fn serve_group<S: ReplySigner, H: ZoneHandler, O: Holder<S, H>, W: Write>(
 ) -> Result<Option<usize>, Fault>
     ensures stays { Stays server.old server.new }
     ensures served { OnOk result ((written : List ℕ) ×
-        GroupServed (O.begins holder.now) (O.settles holder.now) (service_of H.ZoneHandler S.signature_for server.old) (contents lines.now) written server.new.server.catalog.zones ×
+        GroupServed (O.begins holder.now) (O.settles holder.now) (keyed_of H.ZoneHandler S.signature_for server.old)
+        (contents lines.now) written server.new.server.catalog.zones ×
         Appends (W.contents writer.old) (W.contents writer.new) written) }
 {
     if !holder.begin(alloc, &mut server.server.catalog, lines)? {
@@ -189,7 +196,8 @@ fn put_lines_at_hand<R: LinesAtHand>(
     reader: &mut R,
     lines: &mut Vec<Vec<u8>>,
 ) -> Result<(), Fault>
-    ensures { OnOk result (IfSome (R.remaining reader.old) (λ input. (those : List (List ℕ)) × (rest : List ℕ) × AreLines input those rest ×
+    ensures { OnOk result (IfSome (R.remaining reader.old) (λ input. (those : List (List ℕ)) × (rest : List ℕ) ×
+        AreLines input those rest ×
         (R.remaining reader.new ≡ Some rest) × (contents lines.new.items ≡ contents lines.old.items ++ those))) }
 {
     for _ in 1..MOST_LINES {
@@ -206,7 +214,8 @@ fn put_lines_at_hand<R: LinesAtHand>(
 
 /// The next line of a reader, and those behind it that are at hand; none at its end.
 fn next_group<R: LinesAtHand>(alloc: Global, reader: &mut R) -> Result<Vec<Vec<u8>>, Fault>
-    ensures { IfOk result (λ lines. IfSome (R.remaining reader.old) (λ input. NextLines input (contents lines.items) (R.remaining reader.new))) }
+    ensures { IfOk result (λ lines.
+        IfSome (R.remaining reader.old) (λ input. NextLines input (contents lines.items) (R.remaining reader.new))) }
 {
     let mut lines = Vec::new(alloc);
     let Some(line) = next_line(alloc, reader)? else {
@@ -217,7 +226,8 @@ fn next_group<R: LinesAtHand>(alloc: Global, reader: &mut R) -> Result<Vec<Vec<u
     Ok(lines)
 }
 
-/// Serves the lines of a reader, until it ends, in groups of those that are at hand: the number of the first that tells no message, if there is one.
+/// Serves the lines of a reader, until it ends, in groups of those that are at hand: the number of the first that tells
+/// no message, if there is one.
 fn serve_groups<
     S: ReplySigner,
     H: ZoneHandler,
@@ -235,9 +245,11 @@ fn serve_groups<
     watch: &mut T,
 ) -> Result<Option<u64>, Fault>
     ensures stays { Stays server.old server.new }
-    ensures served { OnOk result (IfSome (R.remaining reader.old) (λ input. (lines : List (List ℕ)) × (written : List ℕ) ×
+    ensures served { OnOk result (IfSome (R.remaining reader.old) (λ input. (lines : List (List ℕ)) ×
+        (written : List ℕ) ×
         AreLines input lines [] ×
-        LinesServed (O.begins holder.now) (O.settles holder.now) T.tends (service_of H.ZoneHandler S.signature_for server.old) lines written server.new.server.catalog.zones ×
+        LinesServed (O.begins holder.now) (O.settles holder.now) T.tends
+        (keyed_of H.ZoneHandler S.signature_for server.old) lines written server.new.server.catalog.zones ×
         Appends (W.contents writer.old) (W.contents writer.new) written)) }
 {
     let mut bad = None;
@@ -263,9 +275,11 @@ fn number_of(before: u64, place: Option<usize>) -> Option<u64> {
     }
 }
 
-/// Serves the lines of an input, until it ends, in groups of those that are at hand together, 64 at most: where `holder` has zones hold the updates of a group, these
-/// are written before a line of it is answered, and all its answers are in memory until then; and `watch` looks after the zones behind each group. The number of the
-/// first line that tells no message, if there is one; the first line is 1. Where held updates are not written, nothing of the group is answered.
+/// Serves the lines of an input, until it ends, in groups of those that are at hand together, 64 at most: where
+/// `holder` has zones hold the updates of a group, these are written before a line of it is answered, and all its
+/// answers are in memory until then; and `watch` looks after the zones behind each group. The number of the first line
+/// that tells no message, if there is one; the first line is 1. Where held updates are not written, nothing of the
+/// group is answered.
 pub fn serve_lines<
     S: ReplySigner,
     H: ZoneHandler,
@@ -283,9 +297,11 @@ pub fn serve_lines<
     watch: &mut T,
 ) -> Result<Option<u64>, Fault>
     ensures stays { Stays server.old server.new }
-    ensures served { OnOk result (IfSome (R.remaining reader.old) (λ input. (lines : List (List ℕ)) × (written : List ℕ) ×
+    ensures served { OnOk result (IfSome (R.remaining reader.old) (λ input. (lines : List (List ℕ)) ×
+        (written : List ℕ) ×
         AreLines input lines [] ×
-        LinesServed (O.begins holder.now) (O.settles holder.now) T.tends (service_of H.ZoneHandler S.signature_for server.old) lines written server.new.server.catalog.zones ×
+        LinesServed (O.begins holder.now) (O.settles holder.now) T.tends
+        (keyed_of H.ZoneHandler S.signature_for server.old) lines written server.new.server.catalog.zones ×
         Appends (W.contents writer.old) (W.contents writer.new) written)) }
 {
     let mut reader = match BufReader::with_capacity(alloc, READ_AHEAD, reader) {

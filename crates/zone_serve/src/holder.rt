@@ -41,8 +41,8 @@ impl JournalHolder {
     }
 }
 
-/// Whether the message of a line is an update, by the opcode in its third byte (RFC 1035 section 4.1.1, RFC 2136 section 1.3). What is said of a line that tells no
-/// message does not matter.
+/// Whether the message of a line is an update, by the opcode in its third byte (RFC 1035 section 4.1.1, RFC 2136
+/// section 1.3). What is said of a line that tells no message does not matter.
 fn is_update(line: &[u8]) -> bool {
     let mut words = line
         .split(|b| b.is_ascii_whitespace())

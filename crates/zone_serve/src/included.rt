@@ -27,7 +27,8 @@ impl From<FileFault> for FileRefusal {
     }
 }
 
-/// The files of the system by their paths, of which one that does not begin with `/` is below the folder that the program runs in.
+/// The files of the system by their paths, of which one that does not begin with `/` is below the folder that the
+/// program runs in.
 #[derive(Drop)]
 struct FilesByPath<'a, R> {
     rt: &'a R,
@@ -47,7 +48,8 @@ impl<R: Files + Alloc<A = Global>> FileOpener for FilesByPath<'_, R> {
     }
 }
 
-/// The fault of a zone file for which it, or a file that it includes, is refused. One of an included file is told on the standard error, by the name of that file.
+/// The fault of a zone file for which it, or a file that it includes, is refused. One of an included file is told on
+/// the standard error, by the name of that file.
 fn fault_of_refused<R: Eprint>(rt: &R, refused: &RefusedFile) -> ZoneFileFault
     ensures memory { result ≡ told.Memory ↔ refused.now.fault ≡ NoMemory }
     ensures own { refused.now.file ≡ [] → refused.now.fault ≢ NoMemory → result ≡ told.Zone refused.now.fault }
@@ -62,7 +64,8 @@ fn fault_of_refused<R: Eprint>(rt: &R, refused: &RefusedFile) -> ZoneFileFault
     }
 }
 
-/// The zone of this apex that the bytes of a zone file have with the files that it includes. A fault in one of these is told on the standard error.
+/// The zone of this apex that the bytes of a zone file have with the files that it includes. A fault in one of these is
+/// told on the standard error.
 fn zone_with<R: Eprint + Alloc<A = Global>, O: FileOpener>(
     rt: &R,
     apex: &Name,
@@ -78,7 +81,8 @@ fn zone_with<R: Eprint + Alloc<A = Global>, O: FileOpener>(
     }
 }
 
-/// The zone of this apex that a zone file has with the files that it includes. A fault in one of these is told on the standard error.
+/// The zone of this apex that a zone file has with the files that it includes. A fault in one of these is told on the
+/// standard error.
 pub fn zone_of<R: Files + Eprint + Alloc<A = Global>>(
     rt: &R,
     apex: &Name,

@@ -61,7 +61,8 @@ pub trait JournalFiles<D: Disk> {
     /// The two files of the journal at a path, for this process alone: what is read of them is what is on the disk.
     fn open_two(&self, path: &str) -> Result<TwoFiles<D>, JournalFileFault>
         ensures usable { IfOk result (λ files. IsTrue (D.is_usable files.db) × IsTrue (D.is_usable files.log)) }
-        ensures restarted { IfOk result (λ files. Only (D.seen files.db) (D.may_leave files.db) × Only (D.seen files.log) (D.may_leave files.log)) };
+        ensures restarted { IfOk result (λ files. Only (D.seen files.db) (D.may_leave files.db) ×
+            Only (D.seen files.log) (D.may_leave files.log)) };
 }
 
 /// The files of the system.
@@ -228,7 +229,8 @@ fn open_one<'a, R: Clock + Files + Eprint + Alloc<A = Global>, D: Disk + Drop, F
     }
 }
 
-/// Opens the journals of the arguments, in their order, each for its zone, and tells where a journal has another zone than the file.
+/// Opens the journals of the arguments, in their order, each for its zone, and tells where a journal has another zone
+/// than the file.
 pub fn open_journals<
     'a,
     R: Clock + Files + Eprint + Alloc<A = Global>,
@@ -251,7 +253,8 @@ pub fn open_journals<
     Ok(opened)
 }
 
-/// Compacts journals that have become long, and tells of those that take no updates any more, of each at most once a minute.
+/// Compacts journals that have become long, and tells of those that take no updates any more, of each at most once a
+/// minute.
 #[derive(Drop)]
 pub struct JournalWatch<'r, 'a> {
     /// The runtime.
@@ -260,7 +263,8 @@ pub struct JournalWatch<'r, 'a> {
     pub journals: Vec<Journalled<'a>>,
 }
 
-/// Whether what was last told at a moment, if it was, is to be told again: a minute later, or where the clock was set back.
+/// Whether what was last told at a moment, if it was, is to be told again: a minute later, or where the clock was set
+/// back.
 fn is_due(told: Option<u64>, now: u64) -> bool
     ensures { IsTrue result ↔ IsDue told now }
 {

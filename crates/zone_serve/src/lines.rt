@@ -59,7 +59,8 @@ fn message_of(
     address: &str,
     digits: &str,
 ) -> Result<Option<LineMessage>, AllocError>
-    ensures { IfOk result (λ message. IfSome message (λ it. IsTransport transport.now it.protocol × (decode_of digits.now ≡ Ok it.bytes.items))) }
+    ensures { IfOk result (λ message. IfSome message (λ it. IsTransport transport.now it.protocol ×
+        (decode_of digits.now ≡ Ok it.bytes.items))) }
 {
     let (Some(protocol), Some(address)) = (transport_named(transport), peer::address(address))
     else {
@@ -75,8 +76,8 @@ fn message_of(
     }
 }
 
-/// The message that a line tells, or `None` where it tells none: `udp` or `tcp`, the address that the message came from, and its
-/// bytes in hex digits, with blanks between them.
+/// The message that a line tells, or `None` where it tells none: `udp` or `tcp`, the address that the message came
+/// from, and its bytes in hex digits, with blanks between them.
 pub fn read_line(alloc: Global, line: &[u8]) -> Result<Option<LineMessage>, AllocError>
     ensures { IfOk result (λ message. IfSome message (IsLineOf line.now)) }
 {

@@ -43,7 +43,8 @@ impl From<AllocError> for ListFault {
     }
 }
 
-/// Adds the names that the lines of a text give to those that are blocked, where one gives a name, and tells what became of the lines.
+/// Adds the names that the lines of a text give to those that are blocked, where one gives a name, and tells what
+/// became of the lines.
 fn add_text(
     alloc: Global,
     list: &mut BlocklistZoneHandler,
@@ -94,7 +95,8 @@ fn tell_of_skipped<R: Eprint>(rt: &R, file: &str, report: &ListReport) {
     }
 }
 
-/// Adds the names of each of these files to those that are blocked, in their order. What of them is skipped is told on the standard error.
+/// Adds the names of each of these files to those that are blocked, in their order. What of them is skipped is told on
+/// the standard error.
 fn add_lists<R: Files + Eprint + Alloc<A = Global>>(
     rt: &R,
     list: &mut BlocklistZoneHandler,

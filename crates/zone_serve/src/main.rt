@@ -1,11 +1,11 @@
-//! A server of zones for whoever owns the sockets: `zone_serve [--zone NAME=FILE].. [OPTION].. udp|tcp|lines` answers what the standard
-//! input brings on the standard output, and tells on the standard error what of it was not answered. `zone_serve --version` prints its
-//! name and version, and `zone_serve --help` how it is started.
+//! A server of zones for whoever owns the sockets: `zone_serve [--zone NAME=FILE].. [OPTION].. udp|tcp|lines` answers
+//! what the standard input brings on the standard output, and tells on the standard error what of it was not answered.
+//! `zone_serve --version` prints its name and version, and `zone_serve --help` how it is started.
 //!
-//! `udp`: the input is one datagram. `tcp`: it is messages behind their lengths (RFC 1035 section 4.2.2), and each is answered as soon
-//! as it is whole. `lines`: it is lines `udp|tcp ADDRESS HEX`. The status is 0 where all of the input was answered, 1 where some of it
-//! was not, 2 for wrong arguments or a wrong address of the peer, 3 without memory, 4 where input, output or clock fail, 5 where a
-//! file is not taken, and 6 where updates at hand are not written.
+//! `udp`: the input is one datagram. `tcp`: it is messages behind their lengths (RFC 1035 section 4.2.2), and each is
+//! answered as soon as it is whole. `lines`: it is lines `udp|tcp ADDRESS HEX`. The status is 0 where all of the input
+//! was answered, 1 where some of it was not, 2 for wrong arguments or a wrong address of the peer, 3 without memory, 4
+//! where input, output or clock fail, 5 where a file is not taken, and 6 where updates at hand are not written.
 #![tactic(auto)]
 
 ghost use Rattle.std.specs.Prelude.{◌≡◌, [], IfOk, MatchOption, None, OnOk, is_none, map, option_map};
@@ -91,7 +91,8 @@ fn told_peer<R: Env + Alloc<A = Global>>(rt: &R, name: &str) -> Result<Option<Ip
     }
 }
 
-/// The address of the peer, as systemd tells it (`REMOTE_ADDR`), or socat (`SOCAT_PEERADDR`), and 127.0.0.1 where neither does.
+/// The address of the peer, as systemd tells it (`REMOTE_ADDR`), or socat (`SOCAT_PEERADDR`), and 127.0.0.1 where
+/// neither does.
 fn peer_address<R: Env + Alloc<A = Global>>(rt: &R) -> Result<IpAddr, Fault> {
     if let Some(address) = told_peer(rt, "REMOTE_ADDR")? {
         return Ok(address);
@@ -126,7 +127,8 @@ fn shared(
     }
 }
 
-/// Puts the zone of an argument into the catalog, the one at this place among the zones, with the list of blocked names behind it.
+/// Puts the zone of an argument into the catalog, the one at this place among the zones, with the list of blocked names
+/// behind it.
 fn load<R: Files + Eprint + Alloc<A = Global>>(
     rt: &R,
     catalog: &mut FixedZones,
@@ -134,7 +136,9 @@ fn load<R: Files + Eprint + Alloc<A = Global>>(
     place: usize,
     list: Option<&Rc<BlocklistZoneHandler>>,
 ) -> Result<Loaded, Fault>
-    ensures loaded { IfOk result (λ loaded. IsLoadedAs argument.entry.name.now (option_map (λ it. it.now.value) list.entry) loaded catalog.old.zones catalog.new.zones) }
+    ensures loaded { IfOk result (λ loaded.
+        IsLoadedAs argument.entry.name.now (option_map (λ it. it.now.value) list.entry) loaded catalog.old.zones
+        catalog.new.zones) }
     ensures others { catalog.new ≡ record catalog.old { zones = catalog.new.zones } }
 {
     let apex = apex_of(rt.alloc(), argument.name, argument.place)?;
@@ -159,7 +163,8 @@ fn load_zones<R: Files + Eprint + Alloc<A = Global>>(
     arguments: &[ZoneArgument<'_>],
     list: Option<&Rc<BlocklistZoneHandler>>,
 ) -> Result<Vec<Loaded>, Fault>
-    ensures loaded { IfOk result (λ loaded. AreLoaded (option_map (λ it. it.now.value) list.entry) (map (λ zone. zone.name.now) arguments.now) loaded.items catalog.old.zones catalog.new.zones) }
+    ensures loaded { IfOk result (λ loaded. AreLoaded (option_map (λ it. it.now.value) list.entry)
+        (map (λ zone. zone.name.now) arguments.now) loaded.items catalog.old.zones catalog.new.zones) }
     ensures others { catalog.new ≡ record catalog.old { zones = catalog.new.zones } }
 {
     let mut loaded = Vec::new(rt.alloc());
@@ -169,7 +174,8 @@ fn load_zones<R: Files + Eprint + Alloc<A = Global>>(
     Ok(loaded)
 }
 
-/// Puts the zones that the arguments ask for into a catalog without updates: each beside the one above it, with the list of blocked names behind it.
+/// Puts the zones that the arguments ask for into a catalog without updates: each beside the one above it, with the
+/// list of blocked names behind it.
 fn load_fixed<R: Files + Eprint + Alloc<A = Global>>(
     rt: &R,
     settings: &Settings<'_>,
@@ -217,8 +223,8 @@ fn put_zones<R: Files + Eprint + Alloc<A = Global>, D: Disk + Drop>(
     put
 }
 
-/// The catalog that the arguments ask for: each zone beside the one above it, with the list of blocked names behind it, and with updates by these keys where the
-/// arguments have rules for it.
+/// The catalog that the arguments ask for: each zone beside the one above it, with the list of blocked names behind it,
+/// and with updates by these keys where the arguments have rules for it.
 fn catalog<R: Files + Eprint + Alloc<A = Global>, D: Disk + Drop>(
     rt: &R,
     settings: &Settings<'_>,
@@ -243,13 +249,19 @@ fn server_for<R: Files + Eprint + Alloc<A = Global>, D: Disk + Drop>(
 ) -> Result<SignedServer<LeftToServer, Handler<D>>, Fault>
     ensures denied { IfOk result (λ made. SameNetworks settings.now.denied.items made.server.rules.access.deny) }
     ensures allowed { IfOk result (λ made. SameNetworks settings.now.allowed.items made.server.rules.access.allow) }
-    ensures transfers_denied { IfOk result (λ made. SameNetworks (denied_transfers (transfer_keys_of settings.now) settings.now.transfers_denied.items) made.server.rules.transfers.deny) }
-    ensures transfers_allowed { IfOk result (λ made. SameNetworks settings.now.transfers_allowed.items made.server.rules.transfers.allow) }
-    ensures limit { IfOk result (λ made. MatchOption settings.now.max_udp (made.server.rules.max_udp ≡ 1232) (λ limit. made.server.rules.max_udp ≡ limit)) }
+    ensures transfers_denied { IfOk result
+        (λ made. SameNetworks (denied_transfers (transfer_keys_of settings.now) settings.now.transfers_denied.items)
+        made.server.rules.transfers.deny) }
+    ensures transfers_allowed { IfOk result
+        (λ made. SameNetworks settings.now.transfers_allowed.items made.server.rules.transfers.allow) }
+    ensures limit { IfOk result (λ made. MatchOption settings.now.max_udp (made.server.rules.max_udp ≡ 1232)
+        (λ limit. made.server.rules.max_udp ≡ limit)) }
     ensures zones { IfOk result (λ made. AreZonesOf settings.now made.keys [] made.server.catalog.zones) }
-    ensures identifier { IfOk result (λ made. made.server.catalog.nsid ≡ option_map (λ it. it.0.now) settings.now.identifier) }
+    ensures identifier { IfOk result
+        (λ made. made.server.catalog.nsid ≡ option_map (λ it. it.0.now) settings.now.identifier) }
     ensures keys { IfOk result (λ made. AreKeysOf (is_none settings.now.keys) made.keys) }
-    ensures transfer_keys { IfOk result (λ made. AllZip IsKeyName (transfer_keys_of settings.now) made.transfer_keys.items) }
+    ensures transfer_keys { IfOk result
+        (λ made. AllZip IsKeyName (transfer_keys_of settings.now) made.transfer_keys.items) }
 {
     let alloc = rt.alloc();
     let keys = keys_of(rt, settings.keys)?;

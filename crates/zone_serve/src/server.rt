@@ -19,7 +19,8 @@ use std::alloc::{AllocError, Global};
 
 /// The networks that may have no transfer.
 fn denied_transfers(alloc: Global, settings: &Settings<'_>) -> Result<Vec<IpNet>, AllocError>
-    ensures { IfOk result (λ networks. networks.items ≡ denied_transfers (transfer_keys_of settings.now) settings.now.transfers_denied.items) }
+    ensures { IfOk result (λ networks.
+        networks.items ≡ denied_transfers (transfer_keys_of settings.now) settings.now.transfers_denied.items) }
 {
     let denied = settings.transfers_denied.as_slice();
     if settings.transfer_keys.is_empty() {
@@ -33,9 +34,13 @@ fn denied_transfers(alloc: Global, settings: &Settings<'_>) -> Result<Vec<IpNet>
 pub fn rules_of(alloc: Global, settings: &Settings<'_>) -> Result<Rules, AllocError>
     ensures denied { IfOk result (λ rules. SameNetworks settings.now.denied.items rules.access.deny) }
     ensures allowed { IfOk result (λ rules. SameNetworks settings.now.allowed.items rules.access.allow) }
-    ensures transfers_denied { IfOk result (λ rules. SameNetworks (denied_transfers (transfer_keys_of settings.now) settings.now.transfers_denied.items) rules.transfers.deny) }
-    ensures transfers_allowed { IfOk result (λ rules. SameNetworks settings.now.transfers_allowed.items rules.transfers.allow) }
-    ensures limit { IfOk result (λ rules. MatchOption settings.now.max_udp (rules.max_udp ≡ 1232) (λ limit. rules.max_udp ≡ limit)) }
+    ensures transfers_denied { IfOk result
+        (λ rules. SameNetworks (denied_transfers (transfer_keys_of settings.now) settings.now.transfers_denied.items)
+        rules.transfers.deny) }
+    ensures transfers_allowed { IfOk result
+        (λ rules. SameNetworks settings.now.transfers_allowed.items rules.transfers.allow) }
+    ensures limit { IfOk result (λ rules. MatchOption settings.now.max_udp (rules.max_udp ≡ 1232)
+        (λ limit. rules.max_udp ≡ limit)) }
 {
     let server = access(alloc, &settings.denied, &settings.allowed)?;
     let denied = denied_transfers(alloc, settings)?;

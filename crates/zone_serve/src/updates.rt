@@ -102,7 +102,9 @@ pub fn take_updates<D: Disk + Drop>(
     fixed: &mut FixedZones,
     catalog: &mut Zones<D>,
 ) -> Result<(), Fault>
-    ensures moved { OnOk result (AreMoved keys.now grants.now loaded.now fixed.old.zones fixed.new.zones catalog.old.zones catalog.new.zones) }
+    ensures moved { OnOk result (AreMoved keys.now grants.now loaded.now
+        (record { fixed = fixed.old.zones; updated = catalog.old.zones })
+        (record { fixed = fixed.new.zones; updated = catalog.new.zones })) }
     ensures others { catalog.new ≡ record catalog.old { zones = catalog.new.zones } }
 {
     match move_zones(alloc, keys, grants, loaded, fixed, catalog) {

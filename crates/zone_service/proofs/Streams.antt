@@ -2,18 +2,20 @@
 use Rattle.std.proofs.Common.{◌≡◌, ◌≤◌, ◌+◌, ◌-◌, ◌∙◌, ℕ, List, [], ◌∷◌, ◌++◌, None, Some, arith, refl, sym, ap, subst, append_assoc, drop, length, length-append, length-drop, take}
 use Rattle.std.proofs.Math.Seq.{take-add}
 use Rattle.std.proofs.lemmas.List.{append-nil, take_all, take_at}
-use Rattle.std.specs.Net.Socket.{socket_ip}
 use Rattle.std.specs.declared.net.SocketAddr.{SocketAddr}
 use Rattle.wire_messages.specs.declared.protocol.Protocol.TheVariants.{Tcp}
 use Rattle.wire_names.specs.rr.domain.DomainName.{DomainName}
 use Rattle.hickory_base.specs.declared.zone_store.handler.ZoneHandler.{Ghosts}
+use Rattle.hickory_server.specs.server.ServedBy.{arrival}
 use Rattle.hickory_server.specs.declared.server.answer.Answer.TheVariants.{Replies}
-use Rattle.hickory_catalog.specs.Signing.{Signer}
+use Rattle.hickory_catalog.specs.replies.Signing.{Signer}
 use Rattle.hickory_catalog.specs.declared.catalog.Catalog.{Catalog}
 use Rattle.signed_server.specs.declared.service.SignedServer.{SignedServer}
 use Rattle.zone_service.specs.Frames.{ArePut, BeginsWith, IsFrame}
 use Rattle.zone_service.specs.Logged.{AreLogged}
-use Rattle.zone_service.specs.Serving.{BecomesOf, Exchange, IsAnsweredStream, IsRefused, KeyedServer, Stays, keyed_of, next, none, over}
+use Rattle.signed_server.specs.KeyedServers.{KeyedServer, keyed_of, over}
+use Rattle.signed_server.specs.ServedWithKeys.{ServedWithKeys}
+use Rattle.zone_service.specs.Serving.{Exchange, IsAnsweredStream, IsRefused, Stays, next, none}
 use Rattle.zone_service.specs.declared.answering.Refusal.{Refusal}
 use Rattle.query_lines.specs.declared.log.QueryLog.{QueryLog}
 use Rattle.zone_service.proofs.Written.{frames_append, frames_more}
@@ -38,7 +40,7 @@ module _ {H : Type 0} (keyed : KeyedServer H) (source : SocketAddr) (now : ℕ) 
   -- One more message is answered.
   pub exchange_more : (zones between after : List (DomainName × List H)) (log middle last : QueryLog) (messages replies : List (List ℕ)) (message : List ℕ) (sent : List (List ℕ))
       → Exchange keyed source now zones log messages replies between middle
-      → BecomesOf (over keyed between) message source Tcp now (Replies sent) after → AreLogged middle now (socket_ip source) Tcp message sent last
+      → ServedWithKeys (over keyed between) (arrival message source Tcp now) (Replies sent) after → AreLogged middle (arrival message source Tcp now) sent last
       → Exchange keyed source now zones log (messages ++ message ∷ []) (replies ++ sent) after last
   exchange_more zones between after log middle last _ _ message sent none served logged = next served logged none (sym (append-nil sent))
   exchange_more zones between after log middle last _ replies message sent (next {between = first} {middle = then} {messages = ms} {sent = s} {others = o} before told rest is) served logged =
@@ -46,10 +48,12 @@ module _ {H : Type 0} (keyed : KeyedServer H) (source : SocketAddr) (now : ℕ) 
 
   module _ (bytes : List ℕ) (consumed written : ℕ) (out : List ℕ) (zones after : List (DomainName × List H)) (first_log log : QueryLog) where
     pub answered_more : (last_log : QueryLog) (message : List ℕ) (sent : List (List ℕ)) (new : List ℕ) (end : ℕ) (waiting : List (List ℕ))
-        → IsAnsweredStream keyed bytes source now (record { consumed = consumed; written = written; refusal = None }) out [] zones first_log log
-        → BeginsWith (drop consumed bytes) message → BecomesOf (over keyed zones) message source Tcp now (Replies sent) after
-        → AreLogged log now (socket_ip source) Tcp message sent last_log → ArePut sent out written new end waiting
-        → IsAnsweredStream keyed bytes source now (record { consumed = consumed + (2 + length message); written = end; refusal = None }) new waiting after first_log last_log
+        → IsAnsweredStream keyed first_log (record { bytes = bytes; source = source; now = now }) (record { consumed = consumed; written = written; refusal = None }) out
+        (record { waiting = []; zones = zones; log = log })
+        → BeginsWith (drop consumed bytes) message → ServedWithKeys (over keyed zones) (arrival message source Tcp now) (Replies sent) after
+        → AreLogged log (arrival message source Tcp now) sent last_log → ArePut sent out written new end waiting
+        → IsAnsweredStream keyed first_log (record { bytes = bytes; source = source; now = now }) (record { consumed = consumed + (2 + length message); written = end; refusal = None }) new
+        (record { waiting = waiting; zones = after; log = last_log })
     answered_more last_log message sent new end waiting so_far begins served logged put =
         let (frame, is, front) = front_more bytes consumed message begins in
         let (nobody, same) = so_far.last in
@@ -61,7 +65,7 @@ module _ {H : Type 0} (keyed : KeyedServer H) (source : SocketAddr) (now : ℕ) 
           replies = so_far.replies ++ sent;
           between = after;
           exchange = exchange_more keyed.server.zones so_far.between after first_log log last_log so_far.messages so_far.replies message sent so_far.exchange
-              (subst (λ (z : List (DomainName × List H)). BecomesOf (over keyed z) message source Tcp now (Replies sent) after) same served) logged;
+              (subst (λ (z : List (DomainName × List H)). ServedWithKeys (over keyed z) (arrival message source Tcp now) (Replies sent) after) same served) logged;
           last = (refl, refl);
           written = so_far.written ++ put.written;
           are_written = rw put.front (frames_append _ _ so_far.written put.written so_far.are_written put.are_frames);
@@ -70,9 +74,11 @@ module _ {H : Type 0} (keyed : KeyedServer H) (source : SocketAddr) (now : ℕ) 
         }
 
     pub refused_last : (message : List ℕ) (refusal : Refusal)
-        → IsAnsweredStream keyed bytes source now (record { consumed = consumed; written = written; refusal = None }) out [] zones first_log log
-        → BeginsWith (drop consumed bytes) message → IsRefused (over keyed zones) message source Tcp now refusal after
-        → IsAnsweredStream keyed bytes source now (record { consumed = consumed + (2 + length message); written = written; refusal = Some refusal }) out [] after first_log log
+        → IsAnsweredStream keyed first_log (record { bytes = bytes; source = source; now = now }) (record { consumed = consumed; written = written; refusal = None }) out
+        (record { waiting = []; zones = zones; log = log })
+        → BeginsWith (drop consumed bytes) message → IsRefused (over keyed zones) (arrival message source Tcp now) refusal after
+        → IsAnsweredStream keyed first_log (record { bytes = bytes; source = source; now = now }) (record { consumed = consumed + (2 + length message); written = written; refusal = Some refusal }) out
+        (record { waiting = []; zones = after; log = log })
     refused_last message refusal so_far begins refused =
         let (frame, is, front) = front_more bytes consumed message begins in
         let (nobody, same) = so_far.last in

@@ -32,6 +32,7 @@ number_counted counters number =
 abbrev pub AnswerCounted : Bool → ℕ → ℕ → List ℕ → Counters → Counters → Type 0
 AnswerCounted stream size number written old new = AreCounted (one_counted false) written (number_counted (message_counted old stream size) number) new
 
--- The messages that are taken of a stream are counted, the number that they are answered with, and the replies that are written.
+-- The messages that are taken of a stream are counted, the number that they are answered with, and the replies that are
+-- written.
 abbrev pub StreamCounted : List ℕ → ℕ → List ℕ → Counters → Counters → Type 0
 StreamCounted taken number written old new = (came : Counters) × AreCounted (one_counted true) taken old came × AreCounted (one_counted false) written (number_counted came number) new

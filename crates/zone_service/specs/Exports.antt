@@ -8,10 +8,14 @@ use Rattle.std.specs.declared.net.SocketAddr.{SocketAddr}
 use Rattle.std.specs.declared.option.Option.TheVariants.{None, Some}
 use Rattle.wire_messages.specs.declared.protocol.Protocol.{Protocol}
 use Rattle.wire_messages.specs.declared.protocol.Protocol.TheVariants.{Tcp, Udp}
+use Rattle.hickory_server.specs.server.ServedBy.{Arrival, arrival}
 use Rattle.hickory_server.specs.declared.server.answer.Answer.TheVariants.{Replies}
+use Rattle.zone_service.specs.Calls.{GivenMessage, GivenStream, ToldOfMessage, ToldOfStream}
 use Rattle.zone_service.specs.Frames.{ArePut}
 use Rattle.zone_service.specs.Logged.{AreLogged}
-use Rattle.zone_service.specs.Serving.{BecomesOf, IsRefused, IsStreamStep, KeyedServer, waiting_in}
+use Rattle.signed_server.specs.KeyedServers.{KeyedServer}
+use Rattle.signed_server.specs.ServedWithKeys.{ServedWithKeys}
+use Rattle.zone_service.specs.Serving.{IsRefused, IsStreamStep, waiting_in}
 use Rattle.zone_service.specs.declared.answering.Refusal.{Refusal}
 use Rattle.zone_service.specs.declared.answering.Refusal.TheVariants.{Denied, Memory, MemoryAfterHandling, Response, Unreadable}
 use Rattle.zone_service.specs.declared.answering.Answering.{Answering}
@@ -47,25 +51,31 @@ abbrev pub transport_of : Bool → Protocol
 transport_of true = Tcp
 transport_of false = Udp
 
--- What is told of a message of this source: a number, and how many bytes were written; and what the service is afterwards.
-pub data AnswerTold {S H : Type 0} (keyed : KeyedServer H) (before : Answering S H) (message address : List ℕ) (port : ℕ) (protocol : Protocol) (now : ℕ) (old : List ℕ) (number written : ℕ) (new : List ℕ) (after : Answering S H) : Type 0 where
-  -- Its source is no address.
-  no_address : IsNoAddress address → number ≡ 6 → written ≡ 0 → new ≡ old → after ≡ before → AnswerTold keyed before message address port protocol now old number written new after
-  -- It has no reply.
-  refused : (source : SocketAddr) (refusal : Refusal) → IsSource address port source
-      → IsRefused keyed message source protocol now refusal after.server.server.catalog.zones
-      → number ≡ refusal_number refusal → written ≡ 0 → new ≡ old → waiting_in after ≡ waiting_in before → after.log ≡ before.log
-      → AnswerTold keyed before message address port protocol now old number written new after
-  -- It has replies. As many as there is room for are written, each behind its length, and the others wait; the log may tell it.
-  answered : (source : SocketAddr) (replies : List (List ℕ)) → IsSource address port source
-      → BecomesOf keyed message source protocol now (Replies replies) after.server.server.catalog.zones
-      → ArePut replies old 0 new written (waiting_in after) → AreLogged before.log now (socket_ip source) protocol message replies after.log → number ≡ 0
-      → AnswerTold keyed before message address port protocol now old number written new after
+-- such a message from this source, as it came
+abbrev pub arrival_of : GivenMessage → SocketAddr → Arrival
+arrival_of given source = arrival given.bytes source (transport_of given.stream) given.now
 
--- What is told of a stream's bytes: a number, how many of them were taken, and how many bytes were written; and what the service is afterwards.
-pub data StreamTold {S H : Type 0} (keyed : KeyedServer H) (before : Answering S H) (bytes address : List ℕ) (port now : ℕ) (old : List ℕ) (number taken written : ℕ) (new : List ℕ) (after : Answering S H) : Type 0 where
+-- What is told of a message, and what the service is afterwards. The bytes for its replies were these before.
+pub data AnswerTold {S H : Type 0} (keyed : KeyedServer H) (before : Answering S H) (given : GivenMessage) (old : List ℕ) (told : ToldOfMessage) (after : Answering S H) : Type 0 where
+  -- Its source is no address.
+  no_address : IsNoAddress given.address → told.number ≡ 6 → told.written ≡ 0 → told.out ≡ old → after ≡ before → AnswerTold keyed before given old told after
+  -- It has no reply.
+  refused : (source : SocketAddr) (refusal : Refusal) → IsSource given.address given.port source
+      → IsRefused keyed (arrival_of given source) refusal after.server.server.catalog.zones
+      → told.number ≡ refusal_number refusal → told.written ≡ 0 → told.out ≡ old → waiting_in after ≡ waiting_in before → after.log ≡ before.log
+      → AnswerTold keyed before given old told after
+  -- It has replies. As many as there is room for are written, each behind its length, and the others wait; the log may
+  -- tell it.
+  answered : (source : SocketAddr) (replies : List (List ℕ)) → IsSource given.address given.port source
+      → ServedWithKeys keyed (arrival_of given source) (Replies replies) after.server.server.catalog.zones
+      → ArePut replies old 0 told.out told.written (waiting_in after) → AreLogged before.log (arrival_of given source) replies after.log → told.number ≡ 0
+      → AnswerTold keyed before given old told after
+
+-- What is told of a stream's bytes, and what the service is afterwards. The bytes for the replies were these before.
+pub data StreamTold {S H : Type 0} (keyed : KeyedServer H) (before : Answering S H) (given : GivenStream) (old : List ℕ) (told : ToldOfStream) (after : Answering S H) : Type 0 where
   -- Their source is no address.
-  no_address : IsNoAddress address → number ≡ 6 → taken ≡ 0 → written ≡ 0 → new ≡ old → after ≡ before → StreamTold keyed before bytes address port now old number taken written new after
-  answered : (source : SocketAddr) (refusal : Option Refusal) → IsSource address port source
-      → IsStreamStep keyed before bytes source now (record { consumed = taken; written = written; refusal = refusal }) new after → number ≡ stream_number refusal
-      → StreamTold keyed before bytes address port now old number taken written new after
+  no_address : IsNoAddress given.address → told.number ≡ 6 → told.taken ≡ 0 → told.written ≡ 0 → told.out ≡ old → after ≡ before → StreamTold keyed before given old told after
+  answered : (source : SocketAddr) (refusal : Option Refusal) → IsSource given.address given.port source
+      → IsStreamStep keyed before (record { bytes = given.bytes; source = source; now = given.now })
+      (record { consumed = told.taken; written = told.written; refusal = refusal }) told.out after → told.number ≡ stream_number refusal
+      → StreamTold keyed before given old told after

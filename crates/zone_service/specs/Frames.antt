@@ -26,7 +26,8 @@ IsCutShort bytes = (length bytes < 2) ⊎ (length bytes < 2 + (256 * get_or byte
 abbrev pub HasNoRoom : ℕ → List ℕ → Type 0
 HasNoRoom room message = (room < 2 + length message) ⊎ (65535 < length message)
 
--- As many of these replies as there is room for are written at this place, each behind its length, up to the end; the others wait. Of the bytes, no others matter.
+-- As many of these replies as there is room for are written at this place, each behind its length, up to the end; the
+-- others wait. Of the bytes, no others matter.
 pub record ArePut (replies : List (List ℕ)) (old : List ℕ) (at : ℕ) (new : List ℕ) (end : ℕ) (waiting : List (List ℕ)) : Type 0 where
   pub written : List (List ℕ)
   pub frames : List ℕ

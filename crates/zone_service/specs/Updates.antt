@@ -9,7 +9,7 @@ use Rattle.wire_names.specs.rr.domain.DomainName.{DomainName}
 use Rattle.wire_names.specs.rr.domain.NameOrder.{name_eq}
 use Rattle.served_zones.specs.ServedZones.{AreJoined, Chain, IsApexText}
 use Rattle.served_zones.specs.declared.parents.Loaded.{Loaded}
-use Rattle.served_updates.specs.Moved.{AreMoved, UpdatedChain}
+use Rattle.served_updates.specs.Moved.{AreMoved, BothZones}
 use Rattle.served_updates.specs.declared.grants.Grant.{Grant}
 
 -- There is a key, and each can be used.
@@ -30,10 +30,10 @@ is_loaded loaded apex = list_any (λ zone. name_eq zone.apex apex) loaded
 abbrev pub AreOfZones : List Grant → List Loaded → Type 0
 AreOfZones grants loaded = All (λ grant. IsTrue (is_loaded loaded grant.apex)) grants
 
--- The zones that were added are served: each beside the one above it, and those that have rules take updates by the keys and their rules. Each rule is of one
--- of them.
-pub record AreServed {D : Type 0} (keys : List Key) (grants : List Grant) (loaded : List Loaded) (added left : List (DomainName × Chain)) (old new : List (DomainName × UpdatedChain D)) : Type 0 where
+-- The zones that were added are served: each beside the one above it, and those that have rules take updates by the
+-- keys and their rules. Each rule is of one of them.
+pub record AreServed {D : Type 0} (keys : List Key) (grants : List Grant) (loaded : List Loaded) (old new : BothZones D) : Type 0 where
   pub joined : List (DomainName × Chain)
-  pub are_joined : AreJoined loaded added joined
+  pub are_joined : AreJoined loaded old.fixed joined
   pub of_zones : AreOfZones grants loaded
-  pub are_moved : AreMoved keys grants loaded joined left old new
+  pub are_moved : AreMoved keys grants loaded (record old { fixed = joined }) new

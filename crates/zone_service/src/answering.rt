@@ -52,9 +52,11 @@ pub struct Answering<S: ReplySigner, H: ZoneHandler> {
 }
 
 impl<S: ReplySigner, H: ZoneHandler> Answering<S, H> {
-    ghost use Rattle.std.specs.Net.Socket.{socket_ip};
+    ghost use Rattle.hickory_server.specs.server.ServedBy.{arrival};
     ghost use Rattle.zone_service.specs.Logged.{AreLogged};
-    ghost use Rattle.zone_service.specs.Serving.{BecomesOf, IsAnsweredStream, IsAtEnd, IsRefused, IsStreamStep, Stays, keyed_of, waiting_in};
+    ghost use Rattle.signed_server.specs.KeyedServers.{keyed_of};
+    ghost use Rattle.signed_server.specs.ServedWithKeys.{ServedWithKeys};
+    ghost use Rattle.zone_service.specs.Serving.{IsAnsweredStream, IsAtEnd, IsRefused, IsStreamStep, Stays, standing_of, waiting_in};
 
     /// A server, with no reply that waits.
     pub(crate) fn new(alloc: Global, server: SignedServer<S, H>) -> Answering<S, H>
@@ -84,7 +86,8 @@ impl<S: ReplySigner, H: ZoneHandler> Answering<S, H> {
         mem::replace(&mut self.pending, Items::new(alloc))
     }
 
-    /// Serves a message: its replies wait to be taken. Those to the message before it that still wait are let go, unless this one is refused.
+    /// Serves a message: its replies wait to be taken. Those to the message before it that still wait are let go,
+    /// unless this one is refused.
     // speed: served, an address
     #[inline(always)]
     fn serve(
@@ -96,10 +99,14 @@ impl<S: ReplySigner, H: ZoneHandler> Answering<S, H> {
         now: u64,
     ) -> Result<(), Refusal>
         ensures stays { Stays self.old.server self.new.server }
-        ensures ok { IfOk result (λ _. BecomesOf (keyed_of H.ZoneHandler S.signature_for self.old.server) bytes.now source protocol now (Replies self.new.pending) self.new.server.server.catalog.zones) }
+        ensures ok { IfOk result (λ _. ServedWithKeys (keyed_of H.ZoneHandler S.signature_for self.old.server)
+            (arrival bytes.now source protocol now) (Replies self.new.pending) self.new.server.server.catalog.zones) }
         ensures start { IfOk result (λ _. self.new.taken ≡ 0) }
-        ensures logged { IfOk result (λ _. AreLogged self.old.log now (socket_ip source) protocol bytes.now self.new.pending self.new.log) }
-        ensures err { IfErr result (λ refusal. IsRefused (keyed_of H.ZoneHandler S.signature_for self.old.server) bytes.now source protocol now refusal self.new.server.server.catalog.zones) }
+        ensures logged { IfOk result (λ _.
+            AreLogged self.old.log (arrival bytes.now source protocol now) self.new.pending self.new.log) }
+        ensures err { IfErr result (λ refusal.
+            IsRefused (keyed_of H.ZoneHandler S.signature_for self.old.server)
+            (arrival bytes.now source protocol now) refusal self.new.server.server.catalog.zones) }
         ensures kept { IfErr result (λ _. (waiting_in self.new ≡ waiting_in self.old) × (self.new.log ≡ self.old.log)) }
     {
         let spare = self.take_spare(alloc);
@@ -127,7 +134,8 @@ impl<S: ReplySigner, H: ZoneHandler> Answering<S, H> {
         self.pending.len().saturating_sub(self.taken)
     }
 
-    /// Writes replies that wait at this place, each behind its length, as many as there is room for: the place behind them.
+    /// Writes replies that wait at this place, each behind its length, as many as there is room for: the place behind
+    /// them.
     // speed: served, an address
     #[inline(always)]
     fn take_at(&mut self, out: &mut [u8], at: usize) -> usize
@@ -151,8 +159,8 @@ impl<S: ReplySigner, H: ZoneHandler> Answering<S, H> {
         self.take_at(out, 0)
     }
 
-    /// Answers a message at this place: writes its replies as `take_at` does. Those to the message before it that still wait are let go,
-    /// unless this one is refused.
+    /// Answers a message at this place: writes its replies as `take_at` does. Those to the message before it that still
+    /// wait are let go, unless this one is refused.
     // speed: served, an address
     #[inline(always)]
     fn answer_at(
@@ -168,10 +176,15 @@ impl<S: ReplySigner, H: ZoneHandler> Answering<S, H> {
         requires { at ≤ length out.old }
         ensures stays { Stays self.old.server self.new.server }
         ensures ok { IfOk result (λ end. (sent : List (List ℕ)) ×
-            BecomesOf (keyed_of H.ZoneHandler S.signature_for self.old.server) bytes.now source protocol now (Replies sent) self.new.server.server.catalog.zones ×
-            ArePut sent out.old at out.new end (waiting_in self.new) × AreLogged self.old.log now (socket_ip source) protocol bytes.now sent self.new.log) }
-        ensures err { IfErr result (λ refusal. IsRefused (keyed_of H.ZoneHandler S.signature_for self.old.server) bytes.now source protocol now refusal self.new.server.server.catalog.zones) }
-        ensures kept { IfErr result (λ _. (waiting_in self.new ≡ waiting_in self.old) × (out.new ≡ out.old) × (self.new.log ≡ self.old.log)) }
+            ServedWithKeys (keyed_of H.ZoneHandler S.signature_for self.old.server)
+            (arrival bytes.now source protocol now) (Replies sent) self.new.server.server.catalog.zones ×
+            ArePut sent out.old at out.new end (waiting_in self.new) ×
+            AreLogged self.old.log (arrival bytes.now source protocol now) sent self.new.log) }
+        ensures err { IfErr result (λ refusal.
+            IsRefused (keyed_of H.ZoneHandler S.signature_for self.old.server)
+            (arrival bytes.now source protocol now) refusal self.new.server.server.catalog.zones) }
+        ensures kept { IfErr result (λ _. (waiting_in self.new ≡ waiting_in self.old) × (out.new ≡ out.old) ×
+            (self.new.log ≡ self.old.log)) }
     {
         match self.serve(alloc, bytes, source, protocol, now) {
             Ok(()) => Ok(self.take_at(out, at)),
@@ -179,8 +192,8 @@ impl<S: ReplySigner, H: ZoneHandler> Answering<S, H> {
         }
     }
 
-    /// Answers a message: writes its replies as `take` does, and says how many bytes they take. Those to the message before it that still
-    /// wait are let go, unless this one is refused.
+    /// Answers a message: writes its replies as `take` does, and says how many bytes they take. Those to the message
+    /// before it that still wait are let go, unless this one is refused.
     // speed: served, an address
     #[inline(always)]
     pub fn answer(
@@ -194,16 +207,21 @@ impl<S: ReplySigner, H: ZoneHandler> Answering<S, H> {
     ) -> Result<usize, Refusal>
         ensures stays { Stays self.old.server self.new.server }
         ensures ok { IfOk result (λ end. (sent : List (List ℕ)) ×
-            BecomesOf (keyed_of H.ZoneHandler S.signature_for self.old.server) bytes.now source protocol now (Replies sent) self.new.server.server.catalog.zones ×
-            ArePut sent out.old 0 out.new end (waiting_in self.new) × AreLogged self.old.log now (socket_ip source) protocol bytes.now sent self.new.log) }
-        ensures err { IfErr result (λ refusal. IsRefused (keyed_of H.ZoneHandler S.signature_for self.old.server) bytes.now source protocol now refusal self.new.server.server.catalog.zones) }
-        ensures kept { IfErr result (λ _. (waiting_in self.new ≡ waiting_in self.old) × (out.new ≡ out.old) × (self.new.log ≡ self.old.log)) }
+            ServedWithKeys (keyed_of H.ZoneHandler S.signature_for self.old.server)
+            (arrival bytes.now source protocol now) (Replies sent) self.new.server.server.catalog.zones ×
+            ArePut sent out.old 0 out.new end (waiting_in self.new) ×
+            AreLogged self.old.log (arrival bytes.now source protocol now) sent self.new.log) }
+        ensures err { IfErr result (λ refusal.
+            IsRefused (keyed_of H.ZoneHandler S.signature_for self.old.server)
+            (arrival bytes.now source protocol now) refusal self.new.server.server.catalog.zones) }
+        ensures kept { IfErr result (λ _. (waiting_in self.new ≡ waiting_in self.old) × (out.new ≡ out.old) ×
+            (self.new.log ≡ self.old.log)) }
     {
         self.answer_at(alloc, bytes, source, protocol, now, out, 0)
     }
 
-    /// The message that is to be answered next, which stands at the front of these bytes, if no reply waits and there is room for one of any
-    /// size.
+    /// The message that is to be answered next, which stands at the front of these bytes, if no reply waits and there
+    /// is room for one of any size.
     fn next_message<'a>(&self, bytes: &'a [u8], room: usize) -> Option<&'a [u8]>
         ensures some { IfSome result (λ message. BeginsWith bytes.now message.now × (waiting_in self.now ≡ [])) }
         ensures none { IsNone result → waiting_in self.now ≡ [] → IsCutShort bytes.now ⊎ (room < 65537) }
@@ -225,8 +243,10 @@ impl<S: ReplySigner, H: ZoneHandler> Answering<S, H> {
     ) -> StreamAnswer
         requires { waiting_in self.old ≡ [] }
         ensures stays { Stays self.old.server self.new.server }
-        ensures answered { IsAnsweredStream (keyed_of H.ZoneHandler S.signature_for self.old.server) bytes.now source now result out.new (waiting_in self.new) self.new.server.server.catalog.zones self.old.log self.new.log }
-        ensures at_end { IsNone result.refusal → waiting_in self.new ≡ [] → IsAtEnd bytes.now result.consumed (length out.new) result.written }
+        ensures answered { IsAnsweredStream (keyed_of H.ZoneHandler S.signature_for self.old.server) self.old.log
+            (record { bytes = bytes.now; source = source; now = now }) result out.new (standing_of self.new) }
+        ensures at_end { IsNone result.refusal → waiting_in self.new ≡ [] →
+            IsAtEnd bytes.now result.consumed (length out.new) result.written }
         ensures within { (result.consumed ≤ length bytes.now) × (result.written ≤ length out.new) }
     {
         let mut consumed = 0;
@@ -259,9 +279,9 @@ impl<S: ReplySigner, H: ZoneHandler> Answering<S, H> {
         }
     }
 
-    /// Answers the messages that stand whole at the front of a stream's bytes, each behind its length (RFC 1035 section 4.2.2), one after the
-    /// other, while there is room for a reply of any size and none waits. It ends behind one that is refused. Replies that waited before it
-    /// are let go.
+    /// Answers the messages that stand whole at the front of a stream's bytes, each behind its length (RFC 1035 section
+    /// 4.2.2), one after the other, while there is room for a reply of any size and none waits. It ends behind one that
+    /// is refused. Replies that waited before it are let go.
     pub fn answer_stream(
         &mut self,
         alloc: Global,
@@ -271,7 +291,8 @@ impl<S: ReplySigner, H: ZoneHandler> Answering<S, H> {
         out: &mut [u8],
     ) -> StreamAnswer
         ensures stays { Stays self.old.server self.new.server }
-        ensures step { IsStreamStep (keyed_of H.ZoneHandler S.signature_for self.old.server) self.old bytes.now source now result out.new self.new }
+        ensures step { IsStreamStep (keyed_of H.ZoneHandler S.signature_for self.old.server) self.old
+            (record { bytes = bytes.now; source = source; now = now }) result out.new self.new }
         ensures within { (result.consumed ≤ length bytes.now) × (result.written ≤ length out.new) }
     {
         self.taken = self.pending.len();

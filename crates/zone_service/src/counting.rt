@@ -19,7 +19,8 @@ fn count_one(counters: &mut Counters, came: bool, message: &[u8])
     }
 }
 
-/// Counts each of the messages that stand whole at the front of bytes, behind their lengths: as ones that came over a stream, or as replies.
+/// Counts each of the messages that stand whole at the front of bytes, behind their lengths: as ones that came over a
+/// stream, or as replies.
 pub(crate) fn count_frames(counters: &mut Counters, came: bool, frames: &[u8])
     ensures { AreCounted (one_counted came) frames.now counters.old counters.new }
 {
@@ -54,8 +55,8 @@ fn count_number(counters: &mut Counters, number: u32)
     counters.count_unanswered(reason);
 }
 
-/// Counts a message of so many bytes that came over a stream or as a datagram, the number that it was answered with, and the replies that
-/// were written.
+/// Counts a message of so many bytes that came over a stream or as a datagram, the number that it was answered with,
+/// and the replies that were written.
 // speed: served, an address
 #[inline(always)]
 pub(crate) fn count_answer(
@@ -74,7 +75,8 @@ pub(crate) fn count_answer(
     count_frames(counters, false, written);
 }
 
-/// Counts the messages that were taken of a stream, the number that they were answered with, and the replies that were written.
+/// Counts the messages that were taken of a stream, the number that they were answered with, and the replies that were
+/// written.
 pub(crate) fn count_stream(counters: &mut Counters, taken: &[u8], number: u32, written: &[u8])
     ensures { StreamCounted taken.now number written.now counters.old counters.new }
 {

@@ -1,6 +1,6 @@
 //! What C calls. `host/zone_service.h` says of each what it is given and what it answers.
 
-ghost use Rattle.std.specs.Prelude.{◌≡◌, ◌≤◌, ◌⊎◌, ◌↔◌, ◌++◌, ◌∷◌, [], ℕ, IsOk, List, Some, drop, false, length, min, option_map, take};
+ghost use Rattle.std.specs.Prelude.{◌≡◌, ◌≤◌, ◌⊎◌, ◌↔◌, ◌++◌, ◌∷◌, [], IsOk, Some, drop, false, length, min, option_map, take};
 ghost use Rattle.access_control.specs.Access.{Inserts, Network};
 ghost use Rattle.name_lists.specs.Counts.{Counts};
 ghost use Rattle.served_keys.specs.ServedKeys.{IsKeyName, all_networks};
@@ -9,12 +9,14 @@ ghost use Rattle.served_zones.specs.ServedZones.{IsLoadedAs};
 ghost use Rattle.served_zones.specs.declared.parents.Loaded.{Loaded};
 ghost use Rattle.server_counters.specs.Exposition.{exposition_of};
 ghost use Rattle.server_settings.specs.Settings.{IsConfiguration};
+ghost use Rattle.zone_service.specs.Calls.{ToldOfMessage};
 ghost use Rattle.zone_service.specs.Counted.{AnswerCounted, AreCounted, StreamCounted, one_counted};
-ghost use Rattle.zone_service.specs.Exports.{AnswerTold, StreamTold, transport_of};
+ghost use Rattle.zone_service.specs.Exports.{AnswerTold, StreamTold};
 ghost use Rattle.zone_service.specs.Frames.{ArePut};
 ghost use Rattle.zone_service.specs.Limited.{AreLimitsOf, IsLimited};
 ghost use Rattle.zone_service.specs.Lists.{IsListOfText};
-ghost use Rattle.zone_service.specs.Serving.{Stays, keyed_of, waiting_in};
+ghost use Rattle.signed_server.specs.KeyedServers.{keyed_of};
+ghost use Rattle.zone_service.specs.Serving.{Stays, waiting_in};
 ghost use Rattle.zone_service.specs.Updates.{AreKeys, AreServed, IsGrantOf};
 ghost use Rattle.wire_names.specs.rr.domain.DomainName.{DomainName};
 
@@ -64,7 +66,8 @@ fn told(alloc: Global, set: Result<(), SettingFault>, fault: &mut [u8], count: &
     }
 }
 
-/// What of a list was skipped, as a text: how many lines, and the numbers of the first three. It is empty where none was.
+/// What of a list was skipped, as a text: how many lines, and the numbers of the first three. It is empty where none
+/// was.
 fn skipped(alloc: Global, report: &ListReport) -> Result<String, AllocError> {
     let lines = report.skipped();
     match report.first_skipped() {
@@ -77,8 +80,8 @@ fn skipped(alloc: Global, report: &ListReport) -> Result<String, AllocError> {
     }
 }
 
-/// Tells what a list of blocked names came to: puts the text of its fault, or else of what was skipped, as far as there is room, and its
-/// length.
+/// Tells what a list of blocked names came to: puts the text of its fault, or else of what was skipped, as far as there
+/// is room, and its length.
 fn told_of_list(
     alloc: Global,
     set: Result<ListReport, SettingFault>,
@@ -167,7 +170,8 @@ pub extern "C" fn zone_service_set_blocklist(
     fault: &mut [u8],
     count: &mut usize,
 ) -> u32
-    ensures list { result ≡ 0 → (counts : Counts) × IsListOfText text.now counts (option_map (λ it. it.value) service.new.service.list) }
+    ensures list { result ≡ 0 → (counts : Counts) ×
+        IsListOfText text.now counts (option_map (λ it. it.value) service.new.service.list) }
     ensures others { service.new.service ≡ record service.old.service { list = service.new.service.list } }
 {
     let service = service.service();
@@ -184,8 +188,10 @@ pub extern "C" fn zone_service_add_zone(
     fault: &mut [u8],
     count: &mut usize,
 ) -> u32
-    ensures made { result ≡ 0 → (loaded : Loaded) × (service.new.service.loaded.items ≡ service.old.service.loaded.items ++ loaded ∷ []) ×
-        IsLoadedAs name.now (option_map (λ it. it.value) service.old.service.list) loaded service.old.service.added.zones service.new.service.added.zones }
+    ensures made { result ≡ 0 → (loaded : Loaded) ×
+        (service.new.service.loaded.items ≡ service.old.service.loaded.items ++ loaded ∷ []) ×
+        IsLoadedAs name.now (option_map (λ it. it.value) service.old.service.list) loaded
+        service.old.service.added.zones service.new.service.added.zones }
     ensures server { service.new.service.answering ≡ service.old.service.answering }
 {
     let service = service.service();
@@ -208,7 +214,8 @@ pub extern "C" fn zone_service_set_keys(
     told(alloc, service.set_keys(alloc, text), fault, count)
 }
 
-/// Lets requests that the key of this name signed have transfers from anywhere, and keeps transfers from all networks but those that are allowed.
+/// Lets requests that the key of this name signed have transfers from anywhere, and keeps transfers from all networks
+/// but those that are allowed.
 #[unsafe(no_mangle)]
 pub extern "C" fn zone_service_allow_transfer_key(
     alloc: Global,
@@ -218,8 +225,10 @@ pub extern "C" fn zone_service_allow_transfer_key(
     count: &mut usize,
 ) -> u32
     ensures made { result ≡ 0 → (key : DomainName) × IsKeyName name.now key ×
-        (service.new.service.answering.server.transfer_keys.items ≡ service.old.service.answering.server.transfer_keys.items ++ key ∷ []) ×
-        Inserts service.old.service.answering.server.server.rules.transfers.deny all_networks service.new.service.answering.server.server.rules.transfers.deny }
+        (service.new.service.answering.server.transfer_keys.items ≡
+        service.old.service.answering.server.transfer_keys.items ++ key ∷ []) ×
+        Inserts service.old.service.answering.server.server.rules.transfers.deny all_networks
+        service.new.service.answering.server.server.rules.transfers.deny }
 {
     let service = service.service();
     told(alloc, service.allow_transfer_key(alloc, name), fault, count)
@@ -235,7 +244,8 @@ pub extern "C" fn zone_service_allow_update(
     fault: &mut [u8],
     count: &mut usize,
 ) -> u32
-    ensures made { result ≡ 0 → (grant : Grant) × IsGrantOf service.old.service.answering.server.keys zone.now rule.now grant ×
+    ensures made { result ≡ 0 → (grant : Grant) ×
+        IsGrantOf service.old.service.answering.server.keys zone.now rule.now grant ×
         (service.new.service.grants.items ≡ service.old.service.grants.items ++ grant ∷ []) }
     ensures server { service.new.service.answering ≡ service.old.service.answering }
 {
@@ -243,8 +253,8 @@ pub extern "C" fn zone_service_allow_update(
     told(alloc, service.allow_update(alloc, zone, rule), fault, count)
 }
 
-/// Serves the zones that were added: each beside the zone above it, if there is one, which has its DS records (RFC 4035 section 3.1.4.1), and those of which there
-/// are rules with the updates that these grant.
+/// Serves the zones that were added: each beside the zone above it, if there is one, which has its DS records (RFC 4035
+/// section 3.1.4.1), and those of which there are rules with the updates that these grant.
 #[unsafe(no_mangle)]
 pub extern "C" fn zone_service_serve_zones(
     alloc: Global,
@@ -252,9 +262,16 @@ pub extern "C" fn zone_service_serve_zones(
     fault: &mut [u8],
     count: &mut usize,
 ) -> u32
-    ensures made { result ≡ 0 → AreServed service.old.service.answering.server.keys service.old.service.grants.items service.old.service.loaded.items
-        service.old.service.added.zones service.new.service.added.zones
-        service.old.service.answering.server.server.catalog.zones service.new.service.answering.server.server.catalog.zones }
+    ensures made { result ≡ 0 → AreServed service.old.service.answering.server.keys service.old.service.grants.items
+        service.old.service.loaded.items
+        (record {
+          fixed = service.old.service.added.zones;
+          updated = service.old.service.answering.server.server.catalog.zones;
+        })
+        (record {
+          fixed = service.new.service.added.zones;
+          updated = service.new.service.answering.server.server.catalog.zones;
+        }) }
 {
     let service = service.service();
     told(alloc, service.serve_zones(alloc), fault, count)
@@ -269,7 +286,9 @@ pub extern "C" fn zone_service_set_allowed(
     fault: &mut [u8],
     count: &mut usize,
 ) -> u32
-    ensures made { result ≡ 0 → (network : Network) × Inserts service.old.service.answering.server.server.rules.access.allow (network ∷ []) service.new.service.answering.server.server.rules.access.allow }
+    ensures made { result ≡ 0 → (network : Network) ×
+        Inserts service.old.service.answering.server.server.rules.access.allow
+        (network ∷ []) service.new.service.answering.server.server.rules.access.allow }
 {
     let service = service.service();
     told(alloc, service.allow(network), fault, count)
@@ -284,7 +303,9 @@ pub extern "C" fn zone_service_set_denied(
     fault: &mut [u8],
     count: &mut usize,
 ) -> u32
-    ensures made { result ≡ 0 → (network : Network) × Inserts service.old.service.answering.server.server.rules.access.deny (network ∷ []) service.new.service.answering.server.server.rules.access.deny }
+    ensures made { result ≡ 0 → (network : Network) ×
+        Inserts service.old.service.answering.server.server.rules.access.deny
+        (network ∷ []) service.new.service.answering.server.server.rules.access.deny }
 {
     let service = service.service();
     told(alloc, service.deny(network), fault, count)
@@ -299,7 +320,9 @@ pub extern "C" fn zone_service_set_transfer_allowed(
     fault: &mut [u8],
     count: &mut usize,
 ) -> u32
-    ensures made { result ≡ 0 → (network : Network) × Inserts service.old.service.answering.server.server.rules.transfers.allow (network ∷ []) service.new.service.answering.server.server.rules.transfers.allow }
+    ensures made { result ≡ 0 → (network : Network) ×
+        Inserts service.old.service.answering.server.server.rules.transfers.allow
+        (network ∷ []) service.new.service.answering.server.server.rules.transfers.allow }
 {
     let service = service.service();
     told(alloc, service.allow_transfer(network), fault, count)
@@ -314,7 +337,9 @@ pub extern "C" fn zone_service_set_transfer_denied(
     fault: &mut [u8],
     count: &mut usize,
 ) -> u32
-    ensures made { result ≡ 0 → (network : Network) × Inserts service.old.service.answering.server.server.rules.transfers.deny (network ∷ []) service.new.service.answering.server.server.rules.transfers.deny }
+    ensures made { result ≡ 0 → (network : Network) ×
+        Inserts service.old.service.answering.server.server.rules.transfers.deny
+        (network ∷ []) service.new.service.answering.server.server.rules.transfers.deny }
 {
     let service = service.service();
     told(alloc, service.deny_transfer(network), fault, count)
@@ -329,13 +354,15 @@ pub extern "C" fn zone_service_set_max_udp(
     fault: &mut [u8],
     count: &mut usize,
 ) -> u32
-    ensures made { result ≡ 0 → service.new.service.answering.server.server.rules ≡ record service.old.service.answering.server.server.rules { max_udp = size } }
+    ensures made { result ≡ 0 → service.new.service.answering.server.server.rules ≡ record
+        service.old.service.answering.server.server.rules { max_udp = size } }
 {
     let service = service.service();
     told(alloc, service.set_max_udp(size), fault, count)
 }
 
-/// Sets how many replies over UDP a network of clients gets a second, and of how many above that one is truncated; all where the rate is 0.
+/// Sets how many replies over UDP a network of clients gets a second, and of how many above that one is truncated; all
+/// where the rate is 0.
 #[unsafe(no_mangle)]
 pub extern "C" fn zone_service_set_rate_limit(
     alloc: Global,
@@ -366,16 +393,21 @@ pub extern "C" fn zone_service_set_identifier(
     fault: &mut [u8],
     count: &mut usize,
 ) -> u32
-    ensures made { result ≡ 0 → service.new.service.answering.server.server.catalog ≡ record service.old.service.answering.server.server.catalog { nsid = Some text.now } }
+    ensures made { result ≡ 0 → service.new.service.answering.server.server.catalog ≡ record
+        service.old.service.answering.server.server.catalog { nsid = Some text.now } }
 {
     let service = service.service();
     told(alloc, service.set_identifier(alloc, text), fault, count)
 }
 
-/// Has the next query with replies and then one in so many told by a line, which waits to be taken; none where that is 0.
+/// Has the next query with replies and then one in so many told by a line, which waits to be taken; none where that is
+/// 0.
 #[unsafe(no_mangle)]
 pub extern "C" fn zone_service_set_query_log(service: &mut Handle, every: u32)
-    ensures { service.new.service ≡ record service.old.service { answering = record service.old.service.answering { log = record service.old.service.answering.log { every = every; left = 0 } } } }
+    ensures { service.new.service ≡ record service.old.service {
+      answering = record service.old.service.answering
+          { log = record service.old.service.answering.log { every = every; left = 0 } };
+    } }
 {
     service.service().answering.log.set(every);
 }
@@ -385,14 +417,16 @@ pub extern "C" fn zone_service_set_query_log(service: &mut Handle, every: u32)
 pub extern "C" fn zone_service_take_log(service: &mut Handle, out: &mut [u8]) -> usize
     ensures within { result ≤ length out.new }
     ensures put { take result out.new ≡ take result (service.old.service.answering.log.lines.items) }
-    ensures left { service.new.service.answering.log.lines.items ≡ drop result (service.old.service.answering.log.lines.items) }
-    ensures others { service.new.service ≡ record service.old.service { answering = record service.old.service.answering { log = service.new.service.answering.log } } }
+    ensures left { service.new.service.answering.log.lines.items ≡ drop result
+        (service.old.service.answering.log.lines.items) }
+    ensures others { service.new.service ≡ record service.old.service
+        { answering = record service.old.service.answering { log = service.new.service.answering.log } } }
 {
     service.service().answering.log.take(out)
 }
 
-/// Answers a message: writes its replies, each behind its length in two bytes, as many as there is room for, and says how many bytes they take
-/// and how many replies wait. The number says why there is none.
+/// Answers a message: writes its replies, each behind its length in two bytes, as many as there is room for, and says
+/// how many bytes they take and how many replies wait. The number says why there is none.
 #[unsafe(no_mangle)]
 pub extern "C" fn zone_service_answer(
     alloc: Global,
@@ -406,27 +440,29 @@ pub extern "C" fn zone_service_answer(
     written: &mut usize,
     waiting: &mut usize,
 ) -> u32
-    ensures others { service.new.service ≡ record service.old.service { answering = service.new.service.answering; counters = service.new.service.counters; limits = service.new.service.limits } }
+    ensures others { service.new.service ≡ record service.old.service {
+      answering = service.new.service.answering;
+      counters = service.new.service.counters;
+      limits =
+          service.new.service.limits;
+    } }
     ensures stays { Stays service.old.service.answering.server service.new.service.answering.server }
-    ensures told { (made : ℕ) × (count : ℕ) × (bytes : List ℕ) ×
-        AnswerTold (keyed_of ⟦<Handler as ZoneHandler>⟧ ⟦<LeftToServer as ReplySigner>⟧.signature_for service.old.service.answering.server) service.old.service.answering message.now source.now port (transport_of stream) now out.old made count bytes service.new.service.answering ×
-        IsLimited service.old.service.limits stream source.now now made (take count bytes) result (take written.new out.new) service.new.service.limits }
+    ensures told { (made : ToldOfMessage) ×
+        AnswerTold (keyed_of ⟦<Handler as ZoneHandler>⟧ ⟦<LeftToServer as ReplySigner>⟧.signature_for
+        service.old.service.answering.server) service.old.service.answering
+        (record { bytes = message.now; address = source.now; port = port; stream = stream; now = now }) out.old
+        made service.new.service.answering ×
+        IsLimited service.old.service.limits (record { address = source.now; stream = stream; now = now })
+        made (record { number = result; written = written.new; out = out.new }) service.new.service.limits }
     ensures within { written.new ≤ length out.new }
     ensures waiting { waiting.new ≡ length (waiting_in service.new.service.answering) }
-    ensures counted { AnswerCounted stream (length message.now) result (take written.new out.new) service.old.service.counters service.new.service.counters }
+    ensures counted { AnswerCounted stream (length message.now) result
+        (take written.new out.new) service.old.service.counters service.new.service.counters }
 {
     let service = service.service();
+    let answering = &mut service.answering;
     let made = tell_answer(
-        alloc,
-        &mut service.answering,
-        message,
-        source,
-        port,
-        stream,
-        now,
-        out,
-        written,
-        waiting,
+        alloc, answering, message, source, port, stream, now, out, written, waiting,
     );
     let number = limit(
         alloc,
@@ -448,9 +484,9 @@ pub extern "C" fn zone_service_answer(
     number
 }
 
-/// Answers the messages that stand whole at the front of a stream's bytes, each behind its length in two bytes, and says how many bytes
-/// they are, how many bytes of replies were written, and how many replies wait. The number says why the last of them has none. Replies that
-/// waited before it are let go.
+/// Answers the messages that stand whole at the front of a stream's bytes, each behind its length in two bytes, and
+/// says how many bytes they are, how many bytes of replies were written, and how many replies wait. The number says why
+/// the last of them has none. Replies that waited before it are let go.
 #[unsafe(no_mangle)]
 pub extern "C" fn zone_service_answer_stream(
     alloc: Global,
@@ -464,11 +500,17 @@ pub extern "C" fn zone_service_answer_stream(
     written: &mut usize,
     waiting: &mut usize,
 ) -> u32
-    ensures others { service.new.service ≡ record service.old.service { answering = service.new.service.answering; counters = service.new.service.counters } }
+    ensures others { service.new.service ≡ record service.old.service
+        { answering = service.new.service.answering; counters = service.new.service.counters } }
     ensures stays { Stays service.old.service.answering.server service.new.service.answering.server }
-    ensures told { StreamTold (keyed_of ⟦<Handler as ZoneHandler>⟧ ⟦<LeftToServer as ReplySigner>⟧.signature_for service.old.service.answering.server) service.old.service.answering bytes.now source.now port now out.old result taken.new written.new out.new service.new.service.answering }
+    ensures told { StreamTold (keyed_of ⟦<Handler as ZoneHandler>⟧ ⟦<LeftToServer as ReplySigner>⟧.signature_for
+        service.old.service.answering.server) service.old.service.answering
+        (record { bytes = bytes.now; address = source.now; port = port; now = now }) out.old
+        (record { number = result; taken = taken.new; written = written.new; out = out.new })
+        service.new.service.answering }
     ensures waiting { waiting.new ≡ length (waiting_in service.new.service.answering) }
-    ensures counted { StreamCounted (take taken.new bytes.now) result (take written.new out.new) service.old.service.counters service.new.service.counters }
+    ensures counted { StreamCounted (take taken.new bytes.now) result
+        (take written.new out.new) service.old.service.counters service.new.service.counters }
 {
     let service = service.service();
     let number = tell_stream(
@@ -492,19 +534,22 @@ pub extern "C" fn zone_service_answer_stream(
     number
 }
 
-/// Writes replies to the last message that wait, each behind its length in two bytes, as many as there is room for, and says how many
-/// bytes they take, and how many replies wait still.
+/// Writes replies to the last message that wait, each behind its length in two bytes, as many as there is room for, and
+/// says how many bytes they take, and how many replies wait still.
 #[unsafe(no_mangle)]
 pub extern "C" fn zone_service_take(
     service: &mut Handle,
     out: &mut [u8],
     waiting: &mut usize,
 ) -> usize
-    ensures others { service.new.service ≡ record service.old.service { answering = service.new.service.answering; counters = service.new.service.counters } }
+    ensures others { service.new.service ≡ record service.old.service
+        { answering = service.new.service.answering; counters = service.new.service.counters } }
     ensures server { service.new.service.answering.server ≡ service.old.service.answering.server }
-    ensures put { ArePut (waiting_in service.old.service.answering) out.old 0 out.new result (waiting_in service.new.service.answering) }
+    ensures put { ArePut (waiting_in service.old.service.answering) out.old 0 out.new result
+        (waiting_in service.new.service.answering) }
     ensures waiting { waiting.new ≡ length (waiting_in service.new.service.answering) }
-    ensures counted { AreCounted (one_counted false) (take result out.new) service.old.service.counters service.new.service.counters }
+    ensures counted { AreCounted (one_counted false) (take result out.new) service.old.service.counters
+        service.new.service.counters }
 {
     let service = service.service();
     let written = service.answering.take(out);
@@ -513,7 +558,8 @@ pub extern "C" fn zone_service_take(
     written
 }
 
-/// Counts a message of so many bytes that another server answered with this number, and replies that it gave, each behind its length in two bytes.
+/// Counts a message of so many bytes that another server answered with this number, and replies that it gave, each
+/// behind its length in two bytes.
 #[unsafe(no_mangle)]
 pub extern "C" fn zone_service_count_answer(
     service: &mut Handle,
@@ -522,7 +568,8 @@ pub extern "C" fn zone_service_count_answer(
     number: u32,
     replies: &[u8],
 )
-    ensures counted { AnswerCounted stream size number replies.now service.old.service.counters service.new.service.counters }
+    ensures counted { AnswerCounted stream size number replies.now service.old.service.counters
+        service.new.service.counters }
     ensures others { service.new.service ≡ record service.old.service { counters = service.new.service.counters } }
 {
     let service = service.service();
@@ -532,7 +579,8 @@ pub extern "C" fn zone_service_count_answer(
 /// Counts more replies that another server gave, each behind its length in two bytes.
 #[unsafe(no_mangle)]
 pub extern "C" fn zone_service_count_replies(service: &mut Handle, replies: &[u8])
-    ensures counted { AreCounted (one_counted false) replies.now service.old.service.counters service.new.service.counters }
+    ensures counted { AreCounted (one_counted false) replies.now service.old.service.counters
+        service.new.service.counters }
     ensures others { service.new.service ≡ record service.old.service { counters = service.new.service.counters } }
 {
     let service = service.service();
@@ -568,8 +616,8 @@ pub extern "C" fn zone_service_statistics(
     DONE
 }
 
-/// Reads a configuration file in TOML: puts its settings, the name and the value of each with the byte 0 behind both, and how many bytes they are. `names` are
-/// the options that there are, each with the byte 0 behind it.
+/// Reads a configuration file in TOML: puts its settings, the name and the value of each with the byte 0 behind both,
+/// and how many bytes they are. `names` are the options that there are, each with the byte 0 behind it.
 #[unsafe(no_mangle)]
 pub extern "C" fn zone_service_read_settings(
     alloc: Global,

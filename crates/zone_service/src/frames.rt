@@ -41,7 +41,8 @@ pub(crate) fn put_frame(out: &mut [u8], at: usize, reply: &[u8]) -> Option<usize
     ensures len { length out.new ≡ length out.old }
     ensures kept { IsNone result → out.new ≡ out.old }
     ensures no_room { IsNone result → HasNoRoom (length out.old - at) reply.now }
-    ensures frame { IfSome result (λ end. (end ≤ length out.new) × (frame : List ℕ) × IsFrame frame reply.now × (take end out.new ≡ take at out.old ++ frame)) }
+    ensures frame { IfSome result (λ end. (end ≤ length out.new) × (frame : List ℕ) × IsFrame frame reply.now ×
+        (take end out.new ≡ take at out.old ++ frame)) }
 {
     let (Ok(high), Ok(low)) = (
         u8::try_from(reply.len() / 256),
@@ -70,7 +71,8 @@ fn put_only(out: &mut [u8], at: usize, reply: &[u8]) -> (usize, usize)
     }
 }
 
-/// Writes replies at this place, each behind its length, as many as there is room for: the place behind them, and how many they are.
+/// Writes replies at this place, each behind its length, as many as there is room for: the place behind them, and how
+/// many they are.
 pub(crate) fn put_frames(out: &mut [u8], at: usize, replies: &[Octets]) -> (usize, usize)
     requires { at ≤ length out.old }
     ensures put { ArePut replies.now out.old at out.new result.0 (drop result.1 replies.now) }

@@ -33,7 +33,8 @@ impl Handle {
 
     /// The server.
     pub(crate) fn service(&mut self) -> &mut Service
-        ensures* writes_back { sem 𝓛 (follows handle_row service_row self.entry.ghost_name result.ghost_name (λ w. record self.old { service = w })) }
+        ensures* writes_back { sem 𝓛 (follows handle_row service_row self.entry.ghost_name result.ghost_name
+            (λ w. record self.old { service = w })) }
         ensures value { result.now ≡ self.old.service }
     {
         unsafe { &mut *(self.at as *mut Service) }

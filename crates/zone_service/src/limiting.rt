@@ -14,8 +14,8 @@ use std::alloc::Global;
 /// The reply to a datagram is kept back, since its network got as many as it may.
 const LIMITED: u32 = 8;
 
-/// Writes in the place of a reply, which stands behind its length at the front, that the whole is to be had over TCP: the place behind it.
-/// `None` where there is no memory for it, or the reply has no question.
+/// Writes in the place of a reply, which stands behind its length at the front, that the whole is to be had over TCP:
+/// the place behind it. `None` where there is no memory for it, or the reply has no question.
 fn put_truncated(alloc: Global, out: &mut [u8], written: usize) -> Option<usize>
     requires { written ≤ length out.old }
     ensures len { length out.new ≡ length out.old }
@@ -31,8 +31,8 @@ fn put_truncated(alloc: Global, out: &mut [u8], written: usize) -> Option<usize>
     put_frame(out, 0, &short)
 }
 
-/// Shortens a reply that was written at the front, so that it says that the whole is to be had over TCP. Where that cannot be, nothing is
-/// left, which the number says.
+/// Shortens a reply that was written at the front, so that it says that the whole is to be had over TCP. Where that
+/// cannot be, nothing is left, which the number says.
 fn shorten(alloc: Global, out: &mut [u8], written: &mut usize) -> u32
     requires { written.old ≤ length out.old }
     ensures shortened { IsShortened (take written.old out.old) result (take written.new out.new) }
@@ -50,7 +50,8 @@ fn shorten(alloc: Global, out: &mut [u8], written: &mut usize) -> u32
     }
 }
 
-/// Limits a reply to a datagram that was written at the front: it stays, or is shortened, or goes, which the number says.
+/// Limits a reply to a datagram that was written at the front: it stays, or is shortened, or goes, which the number
+/// says.
 fn limit_reply(
     alloc: Global,
     limits: &mut RateLimits,
@@ -60,7 +61,8 @@ fn limit_reply(
     written: &mut usize,
 ) -> u32
     requires { written.old ≤ length out.old }
-    ensures limited { IsReplyLimited limits.old source.now now (take written.old out.old) result (take written.new out.new) }
+    ensures limited { IsReplyLimited limits.old source.now now (take written.old out.old) result
+        (take written.new out.new) }
     ensures counted { limits.new ≡ one_more limits.old source.now now }
     ensures within { written.new ≤ length out.new }
 {
@@ -74,7 +76,8 @@ fn limit_reply(
     }
 }
 
-/// Limits what was written in answer to a message, where it is a datagram and replies are limited: the number that is answered.
+/// Limits what was written in answer to a message, where it is a datagram and replies are limited: the number that is
+/// answered.
 pub(crate) fn limit(
     alloc: Global,
     limits: &mut Option<RateLimits>,
@@ -86,7 +89,9 @@ pub(crate) fn limit(
     written: &mut usize,
 ) -> u32
     requires { written.old ≤ length out.old }
-    ensures limited { IsLimited limits.old stream source.now now made (take written.old out.old) result (take written.new out.new) limits.new }
+    ensures limited { IsLimited limits.old (record { address = source.now; stream = stream; now = now })
+        (record { number = made; written = written.old; out = out.old })
+        (record { number = result; written = written.new; out = out.new }) limits.new }
     ensures within { written.new ≤ length out.new }
 {
     // speed: served, an address

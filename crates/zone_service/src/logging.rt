@@ -1,7 +1,7 @@
 //! Messages and their replies in the log of queries.
 
-ghost use Rattle.std.specs.Net.Socket.{socket_ip};
 ghost use Rattle.std.specs.Prelude.{◌≡◌};
+ghost use Rattle.hickory_server.specs.server.ServedBy.{arrival};
 ghost use Rattle.zone_service.specs.Logged.{AreLogged, is_stream};
 
 use hickory_server::proto::{Octets, Protocol};
@@ -31,7 +31,7 @@ pub(crate) fn log_replies(
     message: &[u8],
     replies: &[Octets],
 )
-    ensures { AreLogged log.old now (socket_ip source.now) protocol message.now replies.now log.new }
+    ensures { AreLogged log.old (arrival message.now source.now protocol now) replies.now log.new }
 {
     // speed: served, an address
     if !log.is_on() {

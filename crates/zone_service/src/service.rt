@@ -35,8 +35,9 @@ use tsig::Keys;
 /// A handler of a chain. No zone has a journal here, so that the type of a journal's files stands for none.
 pub(crate) type Handler = moving::Handler<Memory>;
 
-/// A server, with what it has done in numbers, how many replies networks get, the zones that were added and are not served yet, in their order, the rules of who
-/// may update which, and the list of blocked names for zones that are still to come.
+/// A server, with what it has done in numbers, how many replies networks get, the zones that were added and are not
+/// served yet, in their order, the rules of who may update which, and the list of blocked names for zones that are
+/// still to come.
 #[derive(Drop)]
 pub struct Service {
     pub(crate) answering: Answering<LeftToServer, Handler>,
@@ -48,8 +49,8 @@ pub struct Service {
     list: Option<Rc<BlocklistZoneHandler>>,
 }
 
-/// Puts the zone of this name from the bytes of its file into the catalog, with the list of blocked names behind it, if there is one. After
-/// `ZoneTwice` it is there, and the one that was there is gone.
+/// Puts the zone of this name from the bytes of its file into the catalog, with the list of blocked names behind it, if
+/// there is one. After `ZoneTwice` it is there, and the one that was there is gone.
 fn load(
     alloc: Global,
     catalog: &mut FixedZones,
@@ -57,7 +58,8 @@ fn load(
     bytes: &[u8],
     list: Option<&Rc<BlocklistZoneHandler>>,
 ) -> Result<Loaded, SettingFault>
-    ensures loaded { IfOk result (λ loaded. IsLoadedAs name.now (option_map (λ it. it.now.value) list.entry) loaded catalog.old.zones catalog.new.zones) }
+    ensures loaded { IfOk result (λ loaded.
+        IsLoadedAs name.now (option_map (λ it. it.now.value) list.entry) loaded catalog.old.zones catalog.new.zones) }
     ensures others { catalog.new ≡ record catalog.old { zones = catalog.new.zones } }
 {
     let apex = zone_name(alloc, name)?;
@@ -100,7 +102,8 @@ impl Service {
 
     /// Has the names that a text lists blocked in each zone that comes later, and tells what became of its lines.
     pub fn set_blocklist(&mut self, alloc: Global, text: &[u8]) -> Result<ListReport, SettingFault>
-        ensures list { IfOk result (λ counts. IsListOfText text.now counts (option_map (λ it. it.value) self.new.list)) }
+        ensures list { IfOk result (λ counts.
+            IsListOfText text.now counts (option_map (λ it. it.value) self.new.list)) }
         ensures others { self.new ≡ record self.old { list = self.new.list } }
     {
         let (list, report) = blocklist(alloc, text)?;
@@ -108,11 +111,12 @@ impl Service {
         Ok(report)
     }
 
-    /// Adds the zone of this name from the bytes of its file, with the list of blocked names behind it, if there is one. After
-    /// `ZoneTwice` it is there, and the one that was there is gone.
+    /// Adds the zone of this name from the bytes of its file, with the list of blocked names behind it, if there is
+    /// one. After `ZoneTwice` it is there, and the one that was there is gone.
     pub fn add_zone(&mut self, alloc: Global, name: &[u8], bytes: &[u8]) -> Result<(), SettingFault>
         ensures ok { OnOk result ((loaded : Loaded) × (self.new.loaded.items ≡ self.old.loaded.items ++ loaded ∷ []) ×
-            IsLoadedAs name.now (option_map (λ it. it.value) self.old.list) loaded self.old.added.zones self.new.added.zones) }
+            IsLoadedAs name.now (option_map (λ it. it.value) self.old.list) loaded self.old.added.zones
+            self.new.added.zones) }
         ensures server { self.new.answering ≡ self.old.answering }
     {
         let added = &mut self.added;
@@ -129,11 +133,16 @@ impl Service {
         Ok(())
     }
 
-    /// Lets requests that a key of this name signed have transfers from anywhere, and keeps transfers from all networks but those that are allowed.
+    /// Lets requests that a key of this name signed have transfers from anywhere, and keeps transfers from all networks
+    /// but those that are allowed.
     pub fn allow_transfer_key(&mut self, alloc: Global, text: &[u8]) -> Result<(), SettingFault>
-        ensures ok { OnOk result ((name : DomainName) × IsKeyName text.now name × (self.new.answering.server.transfer_keys.items ≡ self.old.answering.server.transfer_keys.items ++ name ∷ []) ×
-            Inserts self.old.answering.server.server.rules.transfers.deny all_networks self.new.answering.server.server.rules.transfers.deny) }
-        ensures allowed { SameNetworks self.old.answering.server.server.rules.transfers.allow self.new.answering.server.server.rules.transfers.allow }
+        ensures ok { OnOk result ((name : DomainName) × IsKeyName text.now name ×
+            (self.new.answering.server.transfer_keys.items ≡ self.old.answering.server.transfer_keys.items ++ name ∷
+            []) ×
+            Inserts self.old.answering.server.server.rules.transfers.deny all_networks
+            self.new.answering.server.server.rules.transfers.deny) }
+        ensures allowed { SameNetworks self.old.answering.server.server.rules.transfers.allow
+            self.new.answering.server.server.rules.transfers.allow }
         ensures access { self.new.answering.server.server.rules.access ≡ self.old.answering.server.server.rules.access }
     {
         let server = &mut self.answering.server;
@@ -143,25 +152,29 @@ impl Service {
         Ok(server.transfer_keys.push(name)?)
     }
 
-    /// Lets a zone take the updates that a rule grants, which is as [`read_grant`](update_policy::read_grant) takes it; its key is one of the server's.
+    /// Lets a zone take the updates that a rule grants, which is as [`read_grant`](update_policy::read_grant) takes it;
+    /// its key is one of the server's.
     pub fn allow_update(
         &mut self,
         alloc: Global,
         zone: &[u8],
         rule: &[u8],
     ) -> Result<(), SettingFault>
-        ensures ok { OnOk result ((grant : Granted) × IsGrantOf self.old.answering.server.keys zone.now rule.now grant × (self.new.grants.items ≡ self.old.grants.items ++ grant ∷ [])) }
+        ensures ok { OnOk result ((grant : Granted) × IsGrantOf self.old.answering.server.keys zone.now rule.now grant ×
+            (self.new.grants.items ≡ self.old.grants.items ++ grant ∷ [])) }
         ensures server { self.new.answering ≡ self.old.answering }
     {
         let grant = zone_rule(alloc, &self.answering.server.keys, zone, rule)?;
         Ok(self.grants.push(grant)?)
     }
 
-    /// Serves the zones that were added: each beside the zone above it, if there is one, which has its DS records (RFC 4035 section 3.1.4.1); and those of which
-    /// there are rules take updates. Each rule is of a zone that was added. After an error some zones are served.
+    /// Serves the zones that were added: each beside the zone above it, if there is one, which has its DS records (RFC
+    /// 4035 section 3.1.4.1); and those of which there are rules take updates. Each rule is of a zone that was added.
+    /// After an error some zones are served.
     pub fn serve_zones(&mut self, alloc: Global) -> Result<(), SettingFault>
-        ensures ok { OnOk result (AreServed self.old.answering.server.keys self.old.grants.items self.old.loaded.items self.old.added.zones self.new.added.zones
-            self.old.answering.server.server.catalog.zones self.new.answering.server.server.catalog.zones) }
+        ensures ok { OnOk result (AreServed self.old.answering.server.keys self.old.grants.items self.old.loaded.items
+            (record { fixed = self.old.added.zones; updated = self.old.answering.server.server.catalog.zones })
+            (record { fixed = self.new.added.zones; updated = self.new.answering.server.server.catalog.zones })) }
         ensures keys { self.new.answering.server.keys ≡ self.old.answering.server.keys }
         ensures rules { self.new.answering.server.server.rules ≡ self.old.answering.server.server.rules }
     {
@@ -180,9 +193,13 @@ impl Service {
 
     /// Lets the addresses of a network use the server.
     pub fn allow(&mut self, text: &[u8]) -> Result<(), SettingFault>
-        ensures ok { OnOk result ((network : Network) × Inserts self.old.answering.server.server.rules.access.allow (network ∷ []) self.new.answering.server.server.rules.access.allow) }
-        ensures denied { SameNetworks self.old.answering.server.server.rules.access.deny self.new.answering.server.server.rules.access.deny }
-        ensures transfers { self.new.answering.server.server.rules.transfers ≡ self.old.answering.server.server.rules.transfers }
+        ensures ok { OnOk result ((network : Network) ×
+            Inserts self.old.answering.server.server.rules.access.allow
+            (network ∷ []) self.new.answering.server.server.rules.access.allow) }
+        ensures denied { SameNetworks self.old.answering.server.server.rules.access.deny
+            self.new.answering.server.server.rules.access.deny }
+        ensures transfers { self.new.answering.server.server.rules.transfers ≡
+            self.old.answering.server.server.rules.transfers }
     {
         let network = network(text)?;
         let allowed = &mut self.answering.server.server.rules.access;
@@ -191,9 +208,13 @@ impl Service {
 
     /// Keeps the addresses of a network from the server.
     pub fn deny(&mut self, text: &[u8]) -> Result<(), SettingFault>
-        ensures ok { OnOk result ((network : Network) × Inserts self.old.answering.server.server.rules.access.deny (network ∷ []) self.new.answering.server.server.rules.access.deny) }
-        ensures allowed { SameNetworks self.old.answering.server.server.rules.access.allow self.new.answering.server.server.rules.access.allow }
-        ensures transfers { self.new.answering.server.server.rules.transfers ≡ self.old.answering.server.server.rules.transfers }
+        ensures ok { OnOk result ((network : Network) ×
+            Inserts self.old.answering.server.server.rules.access.deny
+            (network ∷ []) self.new.answering.server.server.rules.access.deny) }
+        ensures allowed { SameNetworks self.old.answering.server.server.rules.access.allow
+            self.new.answering.server.server.rules.access.allow }
+        ensures transfers { self.new.answering.server.server.rules.transfers ≡
+            self.old.answering.server.server.rules.transfers }
     {
         let network = network(text)?;
         let denied = &mut self.answering.server.server.rules.access;
@@ -202,8 +223,11 @@ impl Service {
 
     /// Lets the addresses of a network have transfers, where they may use the server.
     pub fn allow_transfer(&mut self, text: &[u8]) -> Result<(), SettingFault>
-        ensures ok { OnOk result ((network : Network) × Inserts self.old.answering.server.server.rules.transfers.allow (network ∷ []) self.new.answering.server.server.rules.transfers.allow) }
-        ensures denied { SameNetworks self.old.answering.server.server.rules.transfers.deny self.new.answering.server.server.rules.transfers.deny }
+        ensures ok { OnOk result ((network : Network) ×
+            Inserts self.old.answering.server.server.rules.transfers.allow
+            (network ∷ []) self.new.answering.server.server.rules.transfers.allow) }
+        ensures denied { SameNetworks self.old.answering.server.server.rules.transfers.deny
+            self.new.answering.server.server.rules.transfers.deny }
         ensures access { self.new.answering.server.server.rules.access ≡ self.old.answering.server.server.rules.access }
     {
         let network = network(text)?;
@@ -213,8 +237,11 @@ impl Service {
 
     /// Keeps transfers from the addresses of a network.
     pub fn deny_transfer(&mut self, text: &[u8]) -> Result<(), SettingFault>
-        ensures ok { OnOk result ((network : Network) × Inserts self.old.answering.server.server.rules.transfers.deny (network ∷ []) self.new.answering.server.server.rules.transfers.deny) }
-        ensures allowed { SameNetworks self.old.answering.server.server.rules.transfers.allow self.new.answering.server.server.rules.transfers.allow }
+        ensures ok { OnOk result ((network : Network) ×
+            Inserts self.old.answering.server.server.rules.transfers.deny
+            (network ∷ []) self.new.answering.server.server.rules.transfers.deny) }
+        ensures allowed { SameNetworks self.old.answering.server.server.rules.transfers.allow
+            self.new.answering.server.server.rules.transfers.allow }
         ensures access { self.new.answering.server.server.rules.access ≡ self.old.answering.server.server.rules.access }
     {
         let network = network(text)?;
@@ -224,7 +251,8 @@ impl Service {
 
     /// Sets how many bytes a reply over UDP has at most, from 512 on.
     pub fn set_max_udp(&mut self, size: u16) -> Result<(), SettingFault>
-        ensures ok { OnOk result (self.new.answering.server.server.rules ≡ record self.old.answering.server.server.rules { max_udp = size }) }
+        ensures ok { OnOk result (self.new.answering.server.server.rules ≡ record self.old.answering.server.server.rules
+            { max_udp = size }) }
     {
         if size < 512 {
             return Err(SettingFault::MaxUdp);
@@ -233,8 +261,8 @@ impl Service {
         Ok(())
     }
 
-    /// Sets how many replies over UDP a network of clients gets a second, and of how many above that one is truncated; all where the rate
-    /// is 0.
+    /// Sets how many replies over UDP a network of clients gets a second, and of how many above that one is truncated;
+    /// all where the rate is 0.
     pub fn set_rate_limit(
         &mut self,
         alloc: Global,
@@ -254,7 +282,8 @@ impl Service {
 
     /// Sets what identifies the server to clients that ask (RFC 5001).
     pub fn set_identifier(&mut self, alloc: Global, bytes: &[u8]) -> Result<(), SettingFault>
-        ensures ok { OnOk result (self.new.answering.server.server.catalog ≡ record self.old.answering.server.server.catalog { nsid = Some bytes.now }) }
+        ensures ok { OnOk result (self.new.answering.server.server.catalog ≡ record
+            self.old.answering.server.server.catalog { nsid = Some bytes.now }) }
         ensures rules { self.new.answering.server.server.rules ≡ self.old.answering.server.server.rules }
     {
         let payload = identifier(alloc, bytes)?;

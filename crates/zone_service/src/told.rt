@@ -2,7 +2,8 @@
 
 ghost use Rattle.std.specs.Prelude.{◌≡◌, ◌≢◌, ◌≤◌, [], ℕ, IfErr, IfOk, IfSome, IsNone, List, length};
 ghost use Rattle.zone_service.specs.Exports.{AnswerTold, IsAddress, IsNoAddress, IsSource, StreamTold, refusal_number, transport_of};
-ghost use Rattle.zone_service.specs.Serving.{Stays, keyed_of, waiting_in};
+ghost use Rattle.signed_server.specs.KeyedServers.{keyed_of};
+ghost use Rattle.zone_service.specs.Serving.{Stays, waiting_in};
 
 use crate::answering::{Answering, Refusal};
 use hickory_server::proto::Protocol;
@@ -89,7 +90,9 @@ fn tell_from<S: ReplySigner, H: ZoneHandler>(
 ) -> u32
     ensures stays { Stays answering.old.server answering.new.server }
     ensures told { (address : List ℕ) → (port : ℕ) → IsSource address port source →
-        AnswerTold (keyed_of H.ZoneHandler S.signature_for answering.old.server) answering.old message.now address port (transport_of stream) now out.old result written.new out.new answering.new }
+        AnswerTold (keyed_of H.ZoneHandler S.signature_for answering.old.server) answering.old
+        (record { bytes = message.now; address = address; port = port; stream = stream; now = now }) out.old
+        (record { number = result; written = written.new; out = out.new }) answering.new }
     ensures waiting { waiting.new ≡ length (waiting_in answering.new) }
     ensures within { written.new ≤ length out.new }
 {
@@ -122,7 +125,9 @@ fn tell_any<S: ReplySigner, H: ZoneHandler>(
     waiting: &mut usize,
 ) -> u32
     ensures stays { Stays answering.old.server answering.new.server }
-    ensures told { AnswerTold (keyed_of H.ZoneHandler S.signature_for answering.old.server) answering.old message.now source.now port (transport_of stream) now out.old result written.new out.new answering.new }
+    ensures told { AnswerTold (keyed_of H.ZoneHandler S.signature_for answering.old.server) answering.old
+        (record { bytes = message.now; address = source.now; port = port; stream = stream; now = now }) out.old
+        (record { number = result; written = written.new; out = out.new }) answering.new }
     ensures waiting { waiting.new ≡ length (waiting_in answering.new) }
     ensures within { written.new ≤ length out.new }
 {
@@ -136,8 +141,8 @@ fn tell_any<S: ReplySigner, H: ZoneHandler>(
     )
 }
 
-/// Answers a message: writes its replies, each behind its length in two bytes, as many as there is room for, and says how many bytes they take
-/// and how many replies wait. The number says why there is none.
+/// Answers a message: writes its replies, each behind its length in two bytes, as many as there is room for, and says
+/// how many bytes they take and how many replies wait. The number says why there is none.
 // speed: served, an address
 #[inline(always)]
 pub(crate) fn tell_answer<S: ReplySigner, H: ZoneHandler>(
@@ -153,7 +158,9 @@ pub(crate) fn tell_answer<S: ReplySigner, H: ZoneHandler>(
     waiting: &mut usize,
 ) -> u32
     ensures stays { Stays answering.old.server answering.new.server }
-    ensures told { AnswerTold (keyed_of H.ZoneHandler S.signature_for answering.old.server) answering.old message.now source.now port (transport_of stream) now out.old result written.new out.new answering.new }
+    ensures told { AnswerTold (keyed_of H.ZoneHandler S.signature_for answering.old.server) answering.old
+        (record { bytes = message.now; address = source.now; port = port; stream = stream; now = now }) out.old
+        (record { number = result; written = written.new; out = out.new }) answering.new }
     ensures waiting { waiting.new ≡ length (waiting_in answering.new) }
     ensures within { written.new ≤ length out.new }
 {
@@ -169,9 +176,9 @@ pub(crate) fn tell_answer<S: ReplySigner, H: ZoneHandler>(
     )
 }
 
-/// Answers the messages that stand whole at the front of a stream's bytes, each behind its length in two bytes, and says how many bytes
-/// they are, how many bytes of replies were written, and how many replies wait. The number says why the last of them has none. Replies that
-/// waited before it are let go.
+/// Answers the messages that stand whole at the front of a stream's bytes, each behind its length in two bytes, and
+/// says how many bytes they are, how many bytes of replies were written, and how many replies wait. The number says why
+/// the last of them has none. Replies that waited before it are let go.
 pub(crate) fn tell_stream<S: ReplySigner, H: ZoneHandler>(
     alloc: Global,
     answering: &mut Answering<S, H>,
@@ -185,7 +192,9 @@ pub(crate) fn tell_stream<S: ReplySigner, H: ZoneHandler>(
     waiting: &mut usize,
 ) -> u32
     ensures stays { Stays answering.old.server answering.new.server }
-    ensures told { StreamTold (keyed_of H.ZoneHandler S.signature_for answering.old.server) answering.old bytes.now source.now port now out.old result taken.new written.new out.new answering.new }
+    ensures told { StreamTold (keyed_of H.ZoneHandler S.signature_for answering.old.server) answering.old
+        (record { bytes = bytes.now; address = source.now; port = port; now = now }) out.old
+        (record { number = result; taken = taken.new; written = written.new; out = out.new }) answering.new }
     ensures waiting { waiting.new ≡ length (waiting_in answering.new) }
     ensures within { (taken.new ≤ length bytes.now) × (written.new ≤ length out.new) }
 {

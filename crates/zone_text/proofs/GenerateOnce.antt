@@ -19,7 +19,7 @@ use Rattle.zone_text.specs.declared.zone_file.fault.EntryError.TheVariants.{At, 
 use Rattle.zone_text.specs.declared.zone_file.number_range.NumberRange.{NumberRange}
 use Rattle.zone_text.specs.Numbered.{IsRange, Reaches, number_below, part_before, part_behind, step_of}
 use Rattle.zone_text.specs.ZoneFaults.{IsMovedInto, error_of}
-use Rattle.zone_text.specs.ZoneFiles.{AreEach, AreNoOctets, HasWordsOf, IsFrontOf, IsGenerated, IsNumberedRecord, IsRangeWord, IsTyped, IsZoneRecord, IsZoneType}
+use Rattle.zone_text.specs.ZoneFiles.{AreEach, AreNoOctets, HasWordsOf, IsFrontOf, IsGenerated, IsNumberedRecord, IsRangeWord, IsTyped, IsZoneRecord, IsZoneType, template}
 use Rattle.zone_text.specs.ZoneFiles.AreEach.{none as no_each, more as one_each}
 use Rattle.zone_text.proofs.BehindOwner.{IsOnce}
 
@@ -39,7 +39,7 @@ range_once text a b is other =
 
 -- the records of the numbers of a range
 abbrev pub Each : Before → Word → Option ℕ → ℕ → Word → NumberRange → ℕ → List (Record RData) → Type 0
-Each before lhs own type rhs range count records = AreEach (λ k. IsNumberedRecord before lhs own type rhs (range.first + k * range.step)) count records
+Each before lhs own type rhs range count records = AreEach (λ k. IsNumberedRecord before (template lhs own type rhs) (range.first + k * range.step)) count records
 
 heads : (a b c d : Word) (r s : List Word) → (a ∷ b ∷ r) ≡ (c ∷ d ∷ s) → (a ≡ c) × (b ≡ d) × (r ≡ s)
 heads a b c d r s e = (cc, cc, cc)

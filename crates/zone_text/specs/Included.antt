@@ -18,7 +18,8 @@ use Rattle.zone_text.specs.declared.zone_file.fault.EntryError.TheVariants.{At}
 use Rattle.zone_text.specs.ZoneFaults.{IsRefused, IsToldOf}
 use Rattle.zone_text.specs.ZoneFiles.{IsEntryFrom, IsKeyword, IsName, after, first_entry, start_of}
 
--- What stands behind `$INCLUDE`: the name of a file, in quotes or not, and the origin of what stands in it, which is the one in force where none is given.
+-- What stands behind `$INCLUDE`: the name of a file, in quotes or not, and the origin of what stands in it, which is
+-- the one in force where none is given.
 pub data IsNamedFile (before : Before) : List Word → List ℕ → DomainName → Type 0 where
   here : {word : Word} {file : List ℕ} → Spells any_byte word.bytes.now file → IsNamedFile before (word ∷ []) file before.origin
   under : {word name : Word} {file : List ℕ} {origin : DomainName} → Spells any_byte word.bytes.now file → IsName before.origin name origin → IsNamedFile before (word ∷ name ∷ []) file origin
@@ -38,12 +39,13 @@ pub record IsIncludeFrom (text : List ℕ) (place : ℕ) (before : Before) (file
   pub line : is_blank (get_or text place 0) ≡ false
   pub is : IsInclude before words file origin
 
--- What an included file leaves: its records and its default TTL; origin and owner name in force are again those of before (RFC 1035 section 5.1).
+-- What an included file leaves: its records and its default TTL; origin and owner name in force are again those of
+-- before (RFC 1035 section 5.1).
 abbrev pub behind_file : Before → Before → Before
 behind_file before last = record last { origin = before.origin; owned = before.owned }
 
--- Entries of a text, one behind the line feed that ends the one before, and what each leaves to the next, where files are included to so many levels and the
--- opener gives the bytes of each by its name.
+-- Entries of a text, one behind the line feed that ends the one before, and what each leaves to the next, where files
+-- are included to so many levels and the opener gives the bytes of each by its name.
 pub data AreIncluded (opened : List ℕ → List ℕ → Type 0) : ℕ → List ℕ → ℕ → Before → ℕ → Before → Type 0 where
   none : {levels : ℕ} {text : List ℕ} {first : ℕ} {start : Before} → AreIncluded opened levels text first start first start
   more : {levels : ℕ} {text : List ℕ} {first : ℕ} {start : Before} {place end : ℕ} {before : Before} {entry : Entry} → AreIncluded opened levels text first start place before → place < length text → IsEntryFrom text place before entry end
@@ -68,9 +70,10 @@ pub record IsZoneWithFiles (opened : List ℕ → List ℕ → Type 0) (origin :
 abbrev pub IncludesNone : List ℕ → ℕ → Before → Type 0
 IncludesNone text place before = (file : List ℕ) (origin : DomainName) (end : ℕ) → IsIncludeFrom text place before file origin end → ⊥
 
--- The first fault of a text with inclusions to so many levels, whose own name is given, and in which file it stands: where neither an entry nor an inclusion
--- stands; where an inclusion stands and no level is left, or the file is refused; and, in an included file, where its text has its first one. It is told by the
--- line and the column of a place of that entry. Or memory was refused.
+-- The first fault of a text with inclusions to so many levels, whose own name is given, and in which file it stands:
+-- where neither an entry nor an inclusion stands; where an inclusion stands and no level is left, or the file is
+-- refused; and, in an included file, where its text has its first one. It is told by the line and the column of a place
+-- of that entry. Or memory was refused.
 pub data IsFaultWithFiles (opened : List ℕ → List ℕ → Type 0) (refused : List ℕ → FileRefusal → Type 0) : ℕ → List ℕ → List ℕ → Before → List ℕ → ZoneFileError → Type 0 where
   memory : {levels : ℕ} {name text file : List ℕ} {start : Before} → IsFaultWithFiles opened refused levels name text start file told.Memory
   entry : {levels place at : ℕ} {name text : List ℕ} {start before : Before} {fault : ZoneFileFault} {what : ZoneFileError} → IsFrontWithFiles opened levels text start place before → place < length text → place ≤ at → IsRefused text place before at fault

@@ -1,5 +1,5 @@
--- Words with numbers for dollar signs, as a $GENERATE directive has them (BIND 9 Administrator Reference Manual, section "BIND Primary File Extension: the
--- $GENERATE Directive").
+-- Words with numbers for dollar signs, as a $GENERATE directive has them (BIND 9 Administrator Reference Manual,
+-- section "BIND Primary File Extension: the $GENERATE Directive").
 use Rattle.std.specs.Prelude.{◌≡◌, ℕ, ◌+◌, ◌-◌, ◌*◌, ◌/◌, ◌%◌, ◌^◌, ◌<◌, ◌≤◌, ◌==◌, ◌&&◌, if◌then◌else◌, nat_lt, Bool, true, false, List, [], ◌∷◌, ◌++◌, zero, suc, length, max, replicate, Option, Some, None}
 use Rattle.std.specs.Char.{is_digit}
 use Rattle.std.specs.Fmt.{decimal, digit_glyph, digits}
@@ -25,8 +25,8 @@ are_digits (byte ∷ text) = is_digit byte 10 && are_digits text
 abbrev pub number_below : ℕ → List ℕ → Option ℕ
 number_below bound text = if nat_lt 0 (length text) && (are_digits text && nat_lt (digits_value 10 text) bound) then Some (digits_value 10 text) else None
 
--- A range: the first number and the last, with `-` between them, and the step behind a `/`, or 1. Numbers have 31 bits; the last is not before the first, the
--- step is not 0, and at most 65,536 numbers are reached.
+-- A range: the first number and the last, with `-` between them, and the step behind a `/`, or 1. Numbers have 31 bits;
+-- the last is not before the first, the step is not 0, and at most 65,536 numbers are reached.
 abbrev pub step_of : Option (List ℕ) → Option ℕ
 step_of None = Some 1
 step_of (Some text) = number_below (2 ^ 31) text
@@ -45,8 +45,8 @@ pub record IsRange (text : List ℕ) (range : NumberRange) : Type 0 where
 abbrev pub Reaches : NumberRange → ℕ → Type 0
 Reaches range count = (k : ℕ) → (k < count → range.first + k * range.step ≤ range.last) × (range.first + k * range.step ≤ range.last → k < count)
 
--- The form of a number, as braces hold it: what is added, with a sign or without, the least width, of at most 127, and a letter for the base, with commas
--- between. Where width and base are left out, they are 0 and decimal.
+-- The form of a number, as braces hold it: what is added, with a sign or without, the least width, of at most 127, and
+-- a letter for the base, with commas between. Where width and base are left out, they are 0 and decimal.
 abbrev pub width_in : Option (List ℕ) → Option ℕ
 width_in None = Some 0
 width_in (Some text) = number_below 128 (part_before 44 text)
@@ -74,7 +74,8 @@ form_of text = form_of_parts (starts_with_minus (part_before 44 text)) (number_b
 abbrev pub moved : NumberForm → ℕ → Option ℕ
 moved form number = if form.less then (if nat_lt number form.offset then None else Some (number - form.offset)) else if nat_lt (number + form.offset) (2 ^ 31) then Some (number + form.offset) else None
 
--- hexadecimal digits as names below ip6.arpa have them, the last first, with dots between them, in so many bytes (RFC 3596 section 2.5)
+-- hexadecimal digits as names below ip6.arpa have them, the last first, with dots between them, in so many bytes (RFC
+-- 3596 section 2.5)
 abbrev pub nibbles : Bool → ℕ → ℕ → List ℕ
 nibbles upper zero number = []
 nibbles upper (suc zero) number = digit_glyph upper (number % 16) ∷ []
@@ -97,8 +98,9 @@ number_text UpperHex width number = padded width (digits 16 true number)
 number_text Nibbles width number = nibbles false (nibbles_len width number) number
 number_text UpperNibbles width number = nibbles true (nibbles_len width number) number
 
--- What a text begins with stands for some bytes, and the rest stands behind it: a byte for itself, with the one behind it where it is a backslash (in quotes, `\"`
--- stands for `"`); `$$` for a dollar sign; `${` and a form up to `}` for the number in that form; and another `$` for the number in decimal digits.
+-- What a text begins with stands for some bytes, and the rest stands behind it: a byte for itself, with the one behind
+-- it where it is a backslash (in quotes, `\"` stands for `"`); `$$` for a dollar sign; `${` and a form up to `}` for
+-- the number in that form; and another `$` for the number in decimal digits.
 abbrev pub Front : Type 0
 Front = Option (List ℕ × List ℕ)
 

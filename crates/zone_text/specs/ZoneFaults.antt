@@ -22,8 +22,8 @@ use Rattle.zone_text.specs.ZoneFiles.{BeginsWith, IsClassIn, IsEntry, IsEntryFro
 abbrev pub is_line_feed : ℕ → Bool
 is_line_feed byte = byte == 10
 
--- The line and the column of a place of a text, both counted from 1: one line more than line feeds stand before it, and one column more than bytes
--- stand between the beginning of its line and it.
+-- The line and the column of a place of a text, both counted from 1: one line more than line feeds stand before it, and
+-- one column more than bytes stand between the beginning of its line and it.
 pub record IsPlaced (text : List ℕ) (place line column : ℕ) : Type 0 where
   pub start : ℕ
   pub on : start ≤ place
@@ -51,29 +51,32 @@ pub record IsNoFront (word : Word) : Type 0 where
 abbrev pub BeginsWithNoFront : List Word → Type 0
 BeginsWithNoFront words = (behind : List Word) × BeginsWith IsNoFront words behind
 
--- Why no entry is read from a place of a text on, with what stands before: no words stand to an end, or those that stand are none. The fault is told at a
--- place of the entry.
+-- Why no entry is read from a place of a text on, with what stands before: no words stand to an end, or those that
+-- stand are none. The fault is told at a place of the entry.
 pub data IsRefused (text : List ℕ) (place : ℕ) (before : Before) (at : ℕ) (fault : ZoneFileFault) : Type 0 where
   no_words : HasNoWords ZoneFile text place 0 → at ≤ length text → IsRefused text place before at fault
   no_entry : {words : List Word} {end : ℕ} → AreWordsTo ZoneFile text place 0 words end → at ≤ end → end ≤ length text → IsNoEntry before (is_blank (get_or text place 0)) words → IsRefused text place before at fault
 
--- The first fault of a text: entries stand up to a place, from there on none is read, and the fault is told by the line and the column of a place of that
--- entry. Or memory was refused.
+-- The first fault of a text: entries stand up to a place, from there on none is read, and the fault is told by the line
+-- and the column of a place of that entry. Or memory was refused.
 pub data IsFirstFault (origin : DomainName) (text : List ℕ) : ZoneFileError → Type 0 where
   memory : IsFirstFault origin text told.Memory
   at : {place at line column : ℕ} {before : Before} {word : FaultWord} {fault : ZoneFileFault} → IsFront origin text place before → place < length text → place ≤ at → IsRefused text place before at fault
       → IsPlaced text at line column → IsShownAt text at word → IsFirstFault origin text (told.At line column word fault)
 
--- A fault of the entry that begins at a place, behind what stands before, told by the line and the column of a place of it.
+-- A fault of the entry that begins at a place, behind what stands before, told by the line and the column of a place of
+-- it.
 pub data IsFaultOf (text : List ℕ) (place : ℕ) (before : Before) : ZoneFileError → Type 0 where
   at : {at line column : ℕ} {word : FaultWord} {fault : ZoneFileFault} → place ≤ at → IsRefused text place before at fault → IsPlaced text at line column → IsShownAt text at word → IsFaultOf text place before (told.At line column word fault)
 
--- The entry behind one that is refused begins behind its words, or, where no words stand to an end, behind the line that it begins on.
+-- The entry behind one that is refused begins behind its words, or, where no words stand to an end, behind the line
+-- that it begins on.
 pub data IsBehindRefused (text : List ℕ) (place : ℕ) : ℕ → Type 0 where
   by_words : {words : List Word} {end : ℕ} → AreWordsTo ZoneFile text place 0 words end → IsBehindRefused text place (end + 1)
   by_line : {end : ℕ} → HasNoWords ZoneFile text place 0 → IsRestOfLine text place end → IsBehindRefused text place (end + 1)
 
--- The entries of a text up to a place, what those leave that are some, and the faults of the others, which leave what they were left.
+-- The entries of a text up to a place, what those leave that are some, and the faults of the others, which leave what
+-- they were left.
 pub data AreTaken (origin : DomainName) (text : List ℕ) : ℕ → Before → List ZoneFileError → Type 0 where
   none : AreTaken origin text (first_entry text) (start_of origin) []
   entry : {place end : ℕ} {before : Before} {faults : List ZoneFileError} {entry : Entry} → AreTaken origin text place before faults → place < length text → IsEntryFrom text place before entry end → AreTaken origin text (end + 1) (after before entry) faults

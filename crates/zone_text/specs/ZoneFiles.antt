@@ -19,15 +19,16 @@ use Rattle.record_text.specs.RecordText.{SameLetters, SpellsData, SpellsType}
 use Rattle.text_words.specs.Spelling.{IsNumber, SpellsName, SpellsTime}
 use Rattle.text_words.specs.Words.{AreWordsTo, is_blank}
 
--- a type of which zones have records: none that stands in messages alone, which are OPT, 41, and from 128 to 255, and not 0, which no record
--- has (RFC 6895 section 3.1)
+-- a type of which zones have records: none that stands in messages alone, which are OPT, 41, and from 128 to 255, and
+-- not 0, which no record has (RFC 6895 section 3.1)
 pub record IsZoneType (number : ℕ) : Type 0 where
   pub not_zero : 0 < number
   pub not_opt : ¬ (number ≡ 41)
   pub not_meta : (number < 128) ⊎ (255 < number)
 
--- What every record of a zone file is: its owner name is fully qualified, its class IN, which is 1 (RFC 1035 section 3.2.4), its type one of
--- zones, its data no longer than their length can tell (RFC 1035 section 3.2.1), and of its proof nothing is known.
+-- What every record of a zone file is: its owner name is fully qualified, its class IN, which is 1 (RFC 1035 section
+-- 3.2.4), its type one of zones, its data no longer than their length can tell (RFC 1035 section 3.2.1), and of its
+-- proof nothing is known.
 pub record IsZoneRecord (r : Record RData) : Type 0 where
   pub qualified : r.name.is_fqdn ≡ true
   pub class_in : r.dns_class ≡ 1
@@ -39,13 +40,15 @@ pub record IsZoneRecord (r : Record RData) : Type 0 where
 abbrev pub last_record : List (Record RData) → Option (Record RData)
 last_record records = slice_get records (length records - 1)
 
--- the last number of a zone's start, whose type is 6 (RFC 1035 section 3.3.13), and 0 where its data stand as octets with no numbers of their own
+-- the last number of a zone's start, whose type is 6 (RFC 1035 section 3.3.13), and 0 where its data stand as octets
+-- with no numbers of their own
 abbrev pub zone_minimum : RData → Option ℕ
 zone_minimum (rdata.SOA soa) = Some soa.minimum
 zone_minimum content = if type_of content == 6 then Some 0 else None
 
--- The TTL of a record that has this one or none of its own: its own, else that of the last $TTL (RFC 2308 section 4), else that of the record
--- before (RFC 1035 section 5.1), else the minimum of a zone's start (RFC 2308 section 4), else none.
+-- The TTL of a record that has this one or none of its own: its own, else that of the last $TTL (RFC 2308 section 4),
+-- else that of the record before (RFC 1035 section 5.1), else the minimum of a zone's start (RFC 2308 section 4), else
+-- none.
 abbrev pub ttl_in_force : Option ℕ → Option ℕ → Option ℕ → Option ℕ → Option ℕ
 ttl_in_force (Some own) default last minimum = Some own
 ttl_in_force None (Some default) last minimum = Some default
@@ -62,7 +65,8 @@ pub record IsDirective (word : Word) : Type 0 where
   pub unquoted : word.quoted ≡ false
   pub dollar : get_or word.bytes.now 0 0 ≡ 36
 
--- the word is a name, relative to an origin where no dot ends it, of at most 255 bytes in wire form (RFC 1035 section 2.3.4)
+-- the word is a name, relative to an origin where no dot ends it, of at most 255 bytes in wire form (RFC 1035 section
+-- 2.3.4)
 pub record IsName (origin : DomainName) (word : Word) (name : DomainName) : Type 0 where
   pub unquoted : word.quoted ≡ false
   pub spelled : SpellsName (Some origin) word.bytes.now name.labels
@@ -125,7 +129,8 @@ pub record IsFrontOf (words : List Word) (own : Option ℕ) (number : ℕ) (behi
   pub timed : AreTtlAndClass front own
   pub typed : BeginsWith (IsTypeWord number) rest behind
 
--- Types whose data are never no octets: A, NS, CNAME, SOA, PTR, MX, TXT and AAAA (RFC 1035 sections 3.3 and 3.4, RFC 3596 section 2.2)
+-- Types whose data are never no octets: A, NS, CNAME, SOA, PTR, MX, TXT and AAAA (RFC 1035 sections 3.3 and 3.4, RFC
+-- 3596 section 2.2)
 abbrev pub has_octets : ℕ → Bool
 has_octets number = if number == 1 then true else if number == 2 then true else if number == 5 then true else if number == 6 then true else if number == 12 then true else if number == 15 then true else if number == 16 then true else number == 28
 
@@ -138,8 +143,8 @@ AreNoOctets words = ⊥
 abbrev pub MayBeData : ℕ → List Word → Type 0
 MayBeData number words = has_octets number ≡ true → AreNoOctets words → ⊥
 
--- What a TTL, if one is written, a type and data behind it make, where this is left by the entries before. Where no TTL is written, that is in force which
--- they leave.
+-- What a TTL, if one is written, a type and data behind it make, where this is left by the entries before. Where no TTL
+-- is written, that is in force which they leave.
 pub record IsTyped (before : Before) (own : Option ℕ) (number : ℕ) (fields : List Word) (r : Record RData) : Type 0 where
   pub typed : type_of r.rdata ≡ number
   pub in_force : ttl_in_force own before.default_ttl (last_ttl before.records) (zone_minimum r.rdata) ≡ Some r.ttl
@@ -155,7 +160,8 @@ pub record IsBehindOwner (before : Before) (words : List Word) (r : Record RData
   pub front : IsFrontOf words own number behind
   pub is : IsTyped before own number behind r
 
--- A record: where its line begins with a blank, it has the owner name in force; otherwise the first word is the owner name, and no directive.
+-- A record: where its line begins with a blank, it has the owner name in force; otherwise the first word is the owner
+-- name, and no directive.
 pub data IsRecordEntry (before : Before) : Bool → List Word → Record RData → Type 0 where
   repeated : {words : List Word} {r : Record RData} → last_owner (take before.owned before.records) ≡ Some r.name → IsBehindOwner before words r → IsRecordEntry before true words r
   named : {owner : Word} {words : List Word} {r : Record RData} → (IsDirective owner → ⊥) → IsName before.origin owner r.name → IsBehindOwner before words r → IsRecordEntry before false (owner ∷ words) r
@@ -178,23 +184,36 @@ pub record IsNumberedOwner (origin : DomainName) (word : Word) (number : ℕ) (n
   pub qualified : name.is_fqdn ≡ true
   pub short : name_len name.labels ≤ 255
 
--- The record that a $GENERATE directive makes of a number: that of the entry with its owner name, its TTL, if it has one, its type and its data, where the
--- number stands for the dollar signs in the owner name and in the data, which are words once it does.
-pub record IsNumberedRecord (before : Before) (lhs : Word) (own : Option ℕ) (type : ℕ) (rhs : Word) (number : ℕ) (r : Record RData) : Type 0 where
-  pub owner : IsNumberedOwner before.origin lhs number r.name
+-- What a $GENERATE directive has of each of its records: the owner name and the data, both with dollar signs, a TTL, if
+-- there is one, and the type.
+pub record Template : Type 0 where
+  pub lhs : Word
+  pub own : Option ℕ
+  pub type : ℕ
+  pub rhs : Word
+
+abbrev pub template : Word → Option ℕ → ℕ → Word → Template
+template lhs own type rhs = record { lhs = lhs; own = own; type = type; rhs = rhs }
+
+-- The record that a $GENERATE directive makes of a number: that of the entry with its owner name, its TTL, if it has
+-- one, its type and its data, where the number stands for the dollar signs in the owner name and in the data, which are
+-- words once it does.
+pub record IsNumberedRecord (before : Before) (given : Template) (number : ℕ) (r : Record RData) : Type 0 where
+  pub owner : IsNumberedOwner before.origin given.lhs number r.name
   pub text : List ℕ
   pub words : List Word
-  pub numbered : IsNumbered rhs.quoted number rhs.bytes.now text
+  pub numbered : IsNumbered given.rhs.quoted number given.rhs.bytes.now text
   pub stand : HasWordsOf text words
-  pub is : IsTyped before own type words r
+  pub is : IsTyped before given.own given.type words r
 
 -- records for the numbers from 0 up to a count
 pub data AreEach (Is : ℕ → Record RData → Type 0) : ℕ → List (Record RData) → Type 0 where
   none : AreEach Is 0 []
   more : {count : ℕ} {records : List (Record RData)} {r : Record RData} → AreEach Is count records → Is count r → AreEach Is (count + 1) (records ++ r ∷ [])
 
--- What stands behind `$GENERATE`: a range, an owner name, TTL and class in either order and either left out, a type, and one word for the data; and the records
--- of all numbers of the range (BIND 9 Administrator Reference Manual, the $GENERATE directive).
+-- What stands behind `$GENERATE`: a range, an owner name, TTL and class in either order and either left out, a type,
+-- and one word for the data; and the records of all numbers of the range (BIND 9 Administrator Reference Manual, the
+-- $GENERATE directive).
 pub record IsGenerated (before : Before) (words : List Word) (records : List (Record RData)) : Type 0 where
   pub range_word : Word
   pub lhs : Word
@@ -209,10 +228,11 @@ pub record IsGenerated (before : Before) (words : List Word) (records : List (Re
   pub stored : IsZoneType type
   pub count : ℕ
   pub reached : Reaches range count
-  pub each : AreEach (λ k. IsNumberedRecord before lhs own type rhs (range.first + k * range.step)) count records
+  pub each : AreEach (λ k. IsNumberedRecord before (template lhs own type rhs) (range.first + k * range.step)) count records
 
--- The words of an entry, whose line begins with a blank or does not, behind what the entries before leave: a blank line, a directive that is one of three
--- (RFC 1035 section 5.1, RFC 2308 section 4, and $GENERATE of BIND), or a record.
+-- The words of an entry, whose line begins with a blank or does not, behind what the entries before leave: a blank
+-- line, a directive that is one of three (RFC 1035 section 5.1, RFC 2308 section 4, and $GENERATE of BIND), or a
+-- record.
 pub data IsEntry (before : Before) : Bool → List Word → Entry → Type 0 where
   blank : {begins_blank : Bool} → IsEntry before begins_blank [] Blank
   origin_of : {directive word : Word} {name : DomainName} → IsKeyword (codes "$ORIGIN") directive → IsName before.origin word name → IsEntry before false (directive ∷ word ∷ []) (Origin name)

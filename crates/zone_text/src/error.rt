@@ -46,11 +46,12 @@ pub enum ZoneFileFault {
     /// A file that is included is not given.
     #[error("{0}")]
     FileRefused(FileRefusal),
-    /// The range of a `$GENERATE` directive is none: two numbers of 31 bits with `-` between them, the first not the greater one, and a step behind `/`
-    /// that is not 0, with at most 65,536 numbers.
+    /// The range of a `$GENERATE` directive is none: two numbers of 31 bits with `-` between them, the first not the
+    /// greater one, and a step behind `/` that is not 0, with at most 65,536 numbers.
     #[error("not a range of numbers")]
     BadRange,
-    /// In a field of a `$GENERATE` directive, `${` does not begin the form of a number, or the number with its offset is below 0 or has more than 31 bits.
+    /// In a field of a `$GENERATE` directive, `${` does not begin the form of a number, or the number with its offset
+    /// is below 0 or has more than 31 bits.
     #[error("not the form of a number")]
     BadNumberForm,
     /// The first record has no owner name: its line begins with a blank.
@@ -73,8 +74,8 @@ pub enum ZoneFileError {
     /// Something is wrong with the file.
     #[error("line {line}, column {column}: {fault}{word}")]
     At {
-        /// Which line it begins on; the first is 1. Where a field is missing, the line that ends the entry; where a quote or a parenthesis is
-        /// not closed, the line where it opens.
+        /// Which line it begins on; the first is 1. Where a field is missing, the line that ends the entry; where a
+        /// quote or a parenthesis is not closed, the line where it opens.
         line: usize,
         /// Which byte of the line it begins with; the first is 1. Where a field is missing, the one behind the last.
         column: usize,
@@ -91,7 +92,8 @@ pub enum ZoneFileError {
 /// Why a zone file with inclusions could not be read: in which file, and what.
 #[derive(Drop)]
 pub struct IncludedError {
-    /// The name of the file that the fault stands in, as the directive has it that includes it; no bytes where it is the first.
+    /// The name of the file that the fault stands in, as the directive has it that includes it; no bytes where it is
+    /// the first.
     pub file: Octets,
     /// What is wrong, and where in that file; or want of memory.
     pub error: ZoneFileError,

@@ -80,19 +80,25 @@ fn read_entries(alloc: Global, text: &[u8], origin: &Name) -> Result<Items<Recor
     Ok(before.records)
 }
 
-/// Reads a zone file (RFC 1035 section 5.1): its records in their order. It is bytes in any encoding, of which those of ASCII have a meaning.
+/// Reads a zone file (RFC 1035 section 5.1): its records in their order. It is bytes in any encoding, of which those of
+/// ASCII have a meaning.
 ///
-/// An entry is a line; parentheses join lines, a comment goes from `;` to the end of its line, and quotes may hold any of these. It is
-/// blank, or `$ORIGIN` and a name, or `$TTL` and a TTL (RFC 2308 section 4), or `$GENERATE` with a range of at most 65,536 numbers and what stands for the
-/// record of each (BIND 9 Administrator Reference Manual), or a record: owner name, TTL, class, type and data. A line that begins with a blank has the owner
-/// name of the record before, those of `$GENERATE` aside. TTL and class stand in either order, and either may be left out; the
-/// class is IN. A record without a TTL has that of the last `$TTL`, else that of the record before; an SOA record that has neither has its own
-/// minimum. A TTL is a number of seconds, or numbers with a unit behind each, one of `s`, `m`, `h`, `d` and `w` in either letter case. Names, in the
-/// data too, that have no dot at their end are relative to the origin, at first the one that is given, which is taken as fully qualified; `@` is the
-/// origin itself. What data are made of is told at [`read_data`](crate::read_data).
+/// An entry is a line; parentheses join lines, a comment goes from `;` to the end of its line, and quotes may hold any
+/// of these. It is blank, or `$ORIGIN` and a name, or `$TTL` and a TTL (RFC 2308 section 4), or `$GENERATE` with a
+/// range of at most 65,536 numbers and what stands for the record of each (BIND 9 Administrator Reference Manual), or a
+/// record: owner name, TTL, class, type and data. A line that begins with a blank has the owner name of the record
+/// before, those of `$GENERATE` aside. TTL and class stand in either order, and either may be left out; the class is
+/// IN. A record without a TTL has that of the last `$TTL`, else that of the record before; an SOA record that has
+/// neither has its own minimum. A TTL is a number of seconds, or numbers with a unit behind each, one of `s`, `m`, `h`,
+/// `d` and `w` in either letter case. Names, in the data too, that have no dot at their end are relative to the origin,
+/// at first the one that is given, which is taken as fully qualified; `@` is the origin itself. What data are made of
+/// is told at [`read_data`](crate::read_data).
 ///
-/// The first fault ends it, with its line and column, which are those of a place of the first entry that is refused, and the field; `$INCLUDE` is
-/// one. Nothing is asked of the records together: that they make one zone, at the origin or below it, is for those who use them.
+/// # Errors
+///
+/// The first fault ends it, with its line and column, which are those of a place of the first entry that is refused,
+/// and the field; `$INCLUDE` is one. Nothing is asked of the records together: that they make one zone, at the origin
+/// or below it, is for those who use them.
 pub fn read_zone_bytes(
     alloc: Global,
     text: &[u8],
@@ -108,7 +114,7 @@ pub fn read_zone_bytes(
     }
 }
 
-/// Reads a zone file that is text in UTF-8, as [`read_zone_bytes`] does.
+/// Reads a zone file that is text in UTF-8, as [`read_zone_bytes`] does, with the same errors.
 pub fn read_zone_file(
     alloc: Global,
     text: &str,

@@ -6,7 +6,7 @@ use Rattle.access_control.specs.declared.Family.{Family}
 use Rattle.access_control.specs.Access.{Network, Matches, IsLongestMatch, Inserts, first_bits, width}
 use Rattle.access_control.specs.Prefixes.{LiesIn, half, IsCommon}
 use Rattle.std.specs.declared.alloc.Global.{Global}
-use Rattle.access_control.specs.Tries.{IsNode, networks_of, networks, IsTrie}
+use Rattle.access_control.specs.representation.Tries.{IsNode, networks_of, networks, IsTrie}
 use Rattle.access_control.specs.declared.trie.Node.{Node}
 use Rattle.access_control.proofs.lemmas.Prefixes.{LiesIn-whole, LiesIn-through, LiesIn-half, same_from_LiesIn, matched_bit, other_half}
 

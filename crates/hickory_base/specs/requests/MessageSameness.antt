@@ -1,5 +1,5 @@
--- When two messages of requests are the same: in each field, records as records compare, by neither TTL nor proof, names in any letter case, and the
--- bytes of the questions as bytes.
+-- When two messages of requests are the same: in each field, records as records compare, by neither TTL nor proof,
+-- names in any letter case, and the bytes of the questions as bytes.
 use Rattle.std.specs.Prelude.{◌≡◌, Option, Some, None}
 use Rattle.std.specs.List.{AllZip}
 use Rattle.wire_messages.specs.op.QuestionSameness.{SameQuestion}

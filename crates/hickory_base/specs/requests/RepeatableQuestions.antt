@@ -6,12 +6,14 @@ use Rattle.wire_messages.specs.serialize.layout.QuestionLayout.{QuestionAt, IsFo
 use Rattle.wire_messages.specs.declared.op.query.Query.{Query}
 use Rattle.hickory_base.specs.requests.Requests.{ReceivedRequest}
 
--- No name of the questions, which stand one behind the other behind the header, leads into the header or runs on behind the last question.
+-- No name of the questions, which stand one behind the other behind the header, leads into the header or runs on behind
+-- the last question.
 pub record AreRepeatable (bytes : List ℕ) (queries : List Query) : Type 0 where
   pub stop : ℕ
   pub stand : ItemsAt (QuestionAt 12 (take stop bytes)) 12 queries stop
 
--- So it is of the questions of the request; and the bytes that are repeated of them are those from the header to the end of the last.
+-- So it is of the questions of the request; and the bytes that are repeated of them are those from the header to the
+-- end of the last.
 pub record HasRepeatableQuestions (request : ReceivedRequest) : Type 0 where
   pub stop : ℕ
   pub within : stop ≤ length request.bytes

@@ -10,8 +10,8 @@ use Rattle.hickory_base.specs.declared.requests.message_request.MessageRequest.{
 abbrev pub questions_form : List Query → List ℕ
 questions_form queries = flat_map (λ query. question_octets (lower_question query)) queries
 
--- What is written of a request is what would be written of a reply with the same parts: its header, its questions anew and counted, and
--- the same lists. EDNS is written with all the flags that it has.
+-- What is written of a request is what would be written of a reply with the same parts: its header, its questions anew
+-- and counted, and the same lists. EDNS is written with all the flags that it has.
 abbrev pub written_form : MessageRequest → Reply
 written_form m = record {
   metadata = m.metadata;

@@ -1,5 +1,6 @@
 -- Requests as they are read (RFC 1035 section 4.1).
 use Rattle.std.specs.Prelude.{◌≡◌, ◌≢◌, ℕ, List, [], None, Ok, false, slice_range}
+use Rattle.wire_messages.specs.Numbers.{opcode_query}
 use Rattle.wire_messages.specs.serialize.reading.Cursor.{Cursor}
 use Rattle.wire_messages.specs.serialize.layout.MessageLayout.{ItemsAt, QuestionRead, high_code, with_high_code}
 use Rattle.wire_messages.specs.op.Metadata.{bare_metadata}
@@ -28,10 +29,11 @@ HasNoAdditional m = (m.additionals ≡ []) × (m.signature ≡ None) × (m.edns 
 abbrev pub HasNoRecord : MessageRequest → Type 0
 HasNoRecord m = (m.answers ≡ []) × (m.authorities ≡ []) × HasNoAdditional m
 
--- Nothing is left of the message of a request: it has no bytes, no question and no record, and the header of a query with id 0; and it was not read.
+-- Nothing is left of the message of a request: it has no bytes, no question and no record, and the header of a query
+-- with id 0; and it was not read.
 pub record IsCleared (request : ReceivedRequest) : Type 0 where
   pub bytes : request.bytes ≡ []
-  pub metadata : request.message.metadata ≡ bare_metadata 0 message_type.Query 0
+  pub metadata : request.message.metadata ≡ bare_metadata 0 message_type.Query opcode_query
   pub queries : request.message.queries ≡ record { queries = []; bytes = [] }
   pub records : HasNoRecord request.message
   pub unread : request.was_read ≡ false
@@ -76,13 +78,15 @@ pub record FollowsHeader (start : Cursor) (section : QuestionSection) : Type 0 w
   pub header_is_read : header start ≡ Ok read
   pub is_read : question_section read.0.counts.queries read.1 ≡ Ok (section, next)
 
--- The questions stand one behind the other behind the header of the message, and the bytes are those from there to the place behind the last.
+-- The questions stand one behind the other behind the header of the message, and the bytes are those from there to the
+-- place behind the last.
 pub record IsQuestionSection (bytes : List ℕ) (section : QuestionSection) : Type 0 where
   pub stop : ℕ
   pub stand : ItemsAt (QuestionRead bytes) 12 section.queries stop
   pub bytes_are : section.bytes ≡ slice_range bytes 12 stop
 
--- The error is the first fault of bytes that begin with no message, as it stands there and as reading meets it, and no want of memory.
+-- The error is the first fault of bytes that begin with no message, as it stands there and as reading meets it, and no
+-- want of memory.
 pub record IsFaultOf (bytes : List ℕ) (e : ProtoError) : Type 0 where
   pub fault : DecodeError
   pub stands : MessageFault bytes fault

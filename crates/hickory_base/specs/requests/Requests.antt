@@ -7,13 +7,18 @@ use Rattle.wire_messages.specs.declared.op.query.Query.{Query}
 use Rattle.hickory_base.specs.declared.requests.message_request.MessageRequest.{MessageRequest}
 use Rattle.hickory_base.specs.declared.server.RequestInfo.{RequestInfo}
 
--- A request. Whether it was read tells that its message is the one that its bytes begin with; one that was put together has the bytes that are written of it.
+-- A request. Whether it was read tells that its message is the one that its bytes begin with; one that was put together
+-- has the bytes that are written of it.
 pub record ReceivedRequest : Type 0 where
   pub message : MessageRequest
   pub bytes : List ℕ
   pub source : SocketAddr
   pub protocol : Protocol
   pub was_read : Bool
+
+-- a request, and the moment at which it is answered, in seconds since 1970
+abbrev pub TimedRequest : Type 0
+TimedRequest = ReceivedRequest × ℕ
 
 -- what a handler may know of a request
 pub record RequestInformation : Type 0 where

@@ -24,7 +24,8 @@ header_of info = info.header
 abbrev pub GivesBy : {I X : Type 0} → (I → Option X → I → Type 0) → (X → Record RData) → I → List (Record RData) → Type 0
 GivesBy next_gives record_of it records = (items : List _) × Drains next_gives it items × (map record_of items ≡ records)
 
--- The reply is that of the response: its parts, the questions of its request with their number, and the records that its iterators give.
+-- The reply is that of the response: its parts, the questions of its request with their number, and the records that
+-- its iterators give.
 pub record IsReplyOf {A N S D : Type 0} (answers_give : A → List (Record RData) → Type 0) (authorities_give : N → List (Record RData) → Type 0) (soa_gives : S → List (Record RData) → Type 0) (additionals_give : D → List (Record RData) → Type 0)
     (response : MessageResponse A N S D) (reply : Reply) : Type 0 where
   pub metadata : reply.metadata ≡ response.metadata
@@ -36,13 +37,6 @@ pub record IsReplyOf {A N S D : Type 0} (answers_give : A → List (Record RData
   pub soa : soa_gives response.soa reply.soa
   pub additionals : additionals_give response.additionals reply.additionals
   pub signature : reply.signature ≡ response.signature
-
--- The reply is that of the response, whose iterators give references of any kind to their records: of each of the four, how it steps, and which record an item
--- refers to.
-abbrev pub IsReplyBy : {A N S D X Y Z W : Type 0} → (A → Option X → A → Type 0) → (X → Record RData) → (N → Option Y → N → Type 0) → (Y → Record RData)
-    → (S → Option Z → S → Type 0) → (Z → Record RData) → (D → Option W → D → Type 0) → (W → Record RData) → MessageResponse A N S D → Reply → Type 0
-IsReplyBy answers answer authorities authority soa soa_record additionals additional =
-    IsReplyOf (GivesBy answers answer) (GivesBy authorities authority) (GivesBy soa soa_record) (GivesBy additionals additional)
 
 -- the metadata of an error reply: that of a reply to the request, with this code
 abbrev pub error_metadata : Metadata → ℕ → Metadata

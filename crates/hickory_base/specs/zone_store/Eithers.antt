@@ -6,7 +6,8 @@ use Rattle.wire_messages.specs.declared.rr.tsig.TSigResponseContext.{TSigRespons
 use Rattle.hickory_base.specs.declared.errors.UpdateFault.{UpdateFault}
 use Rattle.hickory_base.specs.requests.Requests.{ReceivedRequest}
 
--- what a handler of this type answers to an update at a moment, with what a signer has to know, and the handler after it
+-- what a handler of this type answers to an update at a moment, with what a signer has to know, and the handler after
+-- it
 abbrev pub UpdateRelation : Type 0 → Type 1
 UpdateRelation H = H → ReceivedRequest → ℕ → Result Bool UpdateFault → Option TSigResponseContext → H → Type 0
 

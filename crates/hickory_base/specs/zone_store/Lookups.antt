@@ -3,7 +3,9 @@ use Rattle.std.specs.Prelude.{Bool, true, false, List, [], Option, Some, None, R
 use Rattle.wire_messages.specs.op.EdnsFields.{EdnsFields}
 use Rattle.wire_messages.specs.declared.rr.rdata.RData.{RData}
 use Rattle.wire_messages.specs.declared.rr.record.Record.{Record}
+use Rattle.wire_messages.specs.declared.rr.tsig.TSigResponseContext.{TSigResponseContext}
 use Rattle.hickory_base.specs.declared.errors.LookupError.{LookupError}
+use Rattle.hickory_base.specs.declared.errors.UpdateFault.{UpdateFault}
 use Rattle.hickory_base.specs.declared.zone_store.lookup.AuthLookup.{AuthLookup}
 use Rattle.hickory_base.specs.declared.zone_store.lookup.AuthLookup.TheVariants.{Empty, Resolved, Records, Whole}
 use Rattle.hickory_base.specs.declared.zone_store.lookup.LookupControlFlow.{LookupControlFlow}
@@ -18,6 +20,14 @@ asks_for_dnssec (Some edns) = edns.dnssec_ok
 -- what a handler answers to a lookup
 abbrev pub Flow : Type 0
 Flow = LookupControlFlow AuthLookup
+
+-- what the signer of the reply has to know of the request, where the handler tells it
+abbrev pub SignerContext : Type 0
+SignerContext = Option TSigResponseContext
+
+-- what an update answers: whether the zone changed, or why the update is refused
+abbrev pub UpdateResult : Type 0
+UpdateResult = Result Bool UpdateFault
 
 -- the answer, if there is one
 abbrev pub result_of : {T : Type 0} → LookupControlFlow T → Option (Result T LookupError)

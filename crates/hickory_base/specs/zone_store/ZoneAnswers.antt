@@ -4,6 +4,7 @@ use Rattle.std.specs.List.{flat_map, list_any}
 use Rattle.std.specs.Map.{lookup}
 use Rattle.wire_names.specs.rr.domain.DomainName.{DomainName}
 use Rattle.wire_names.specs.rr.domain.NameOrder.{lower_name}
+use Rattle.wire_messages.specs.Numbers.{code_no_error, code_nx_domain, code_refused, code_serv_fail, type_any, type_soa}
 use Rattle.wire_messages.specs.declared.op.query.Query.{Query}
 use Rattle.wire_messages.specs.declared.rr.rdata.RData.{RData}
 use Rattle.wire_messages.specs.declared.rr.rdata.RData.TheVariants as rdata
@@ -41,11 +42,11 @@ found records = Ok (Records records [])
 
 -- the name has no records at all: NXDomain (RFC 1035 section 4.1.1)
 abbrev pub no_name : Result AuthLookup LookupError
-no_name = Err (ResponseCode 3)
+no_name = Err (ResponseCode code_nx_domain)
 
 -- the name has records of other types alone (RFC 2308 section 2.2)
 abbrev pub no_data : Result AuthLookup LookupError
-no_data = Err (Net (NoRecords 0 [] None))
+no_data = Err (Net (NoRecords code_no_error [] None))
 
 abbrev pub is_in_use : DomainName → List (RrKey × List (Record RData)) → Bool
 is_in_use name sets = list_any (λ e. has_name name e.0) sets
@@ -66,9 +67,9 @@ set_or_denial None others = cond others no_data no_name
 abbrev pub set_answer : List (RrKey × List (Record RData)) → DomainName → ℕ → Result AuthLookup LookupError
 set_answer sets name record_type = set_or_denial (lookup (is_key name record_type) sets) (is_in_use name sets)
 
--- what is answered for a name and a type; 255 is any type
+-- what is answered for a name and a type, which may be any type
 abbrev pub zone_answer : List (RrKey × List (Record RData)) → DomainName → ℕ → Result AuthLookup LookupError
-zone_answer sets name record_type = cond (record_type == 255) (any_answer sets name) (set_answer sets name record_type)
+zone_answer sets name record_type = cond (record_type == type_any) (any_answer sets name) (set_answer sets name record_type)
 
 -- a lookup
 abbrev pub LookedUp : MemoryZone → DomainName → ℕ → Flow → Type 0
@@ -78,9 +79,9 @@ abbrev pub SearchedFor : MemoryZone → Result Query LookupError → Flow → Ty
 SearchedFor zone (Ok query) answer = LookedUp zone (lower_name query.name) query.query_type answer
 SearchedFor zone (Err e) answer = answer ≡ Break (Err e)
 
--- one set is asked for: by a question, and not for any type, 255
+-- one set is asked for: by a question, and not for any type
 abbrev pub asks_for_set : Result Query LookupError → Bool
-asks_for_set (Ok query) = not (query.query_type == 255)
+asks_for_set (Ok query) = not (query.query_type == type_any)
 asks_for_set (Err e) = false
 
 -- a request: its one question is looked up
@@ -91,9 +92,9 @@ abbrev pub first_record : Option (List (Record RData)) → Option (Record RData)
 first_record (Some (r ∷ rs)) = Some r
 first_record other = None
 
--- the SOA record of the zone (RFC 1034 section 4.2.1): the first of the set of that type, 6, at the origin
+-- the SOA record of the zone (RFC 1034 section 4.2.1): the first of the set of that type at the origin
 abbrev pub zone_soa : MemoryZone → Option (Record RData)
-zone_soa zone = first_record (lookup (is_key zone.origin 6) zone.sets)
+zone_soa zone = first_record (lookup (is_key zone.origin type_soa) zone.sets)
 
 abbrev pub soa_serial : Option (Record RData) → ℕ
 soa_serial None = 0
@@ -104,19 +105,19 @@ soa_serial (Some r) = serial_in r.rdata where
 
 -- all records but that SOA, in the order of the sets
 abbrev pub other_records : MemoryZone → List (Record RData)
-other_records zone = flat_map (λ e. cond (is_key zone.origin 6 e.0) (drop 1 e.1) e.1) zone.sets
+other_records zone = flat_map (λ e. cond (is_key zone.origin type_soa e.0) (drop 1 e.1) e.1) zone.sets
 
 -- the SOA, all other records, and the SOA again (RFC 5936 section 2.2); without an SOA ServFail
 abbrev pub whole_zone : MemoryZone → Option (Record RData) → Result ZoneTransfer LookupError
-whole_zone zone None = Err (ResponseCode 2)
+whole_zone zone None = Err (ResponseCode code_serv_fail)
 whole_zone zone (Some soa) = Ok (record { records = soa ∷ other_records zone ++ soa ∷ [] })
 
 abbrev pub allowed_transfer : MemoryZone → AxfrPolicy → Result ZoneTransfer LookupError
 allowed_transfer zone AllowAll = whole_zone zone (zone_soa zone)
-allowed_transfer zone Deny = Err (ResponseCode 5)
-allowed_transfer zone AllowSigned = Err (ResponseCode 5)
+allowed_transfer zone Deny = Err (ResponseCode code_refused)
+allowed_transfer zone AllowSigned = Err (ResponseCode code_refused)
 
--- the whole zone, and Refused, which is 5, unless everybody may have it
+-- the whole zone, and Refused unless everybody may have it
 abbrev pub transfer_answer : MemoryZone → Result ZoneTransfer LookupError
 transfer_answer zone = allowed_transfer zone zone.axfr_policy
 

@@ -9,6 +9,7 @@ use Rattle.std.specs.declared.rc.Rc.{Rc}
 use Rattle.std.specs.Ordering.{is_eq}
 use Rattle.wire_names.specs.rr.domain.DomainName.{DomainName}
 use Rattle.wire_names.specs.rr.domain.NameOrder.{SameName, name_eq}
+use Rattle.wire_messages.specs.Numbers.{type_soa}
 use Rattle.wire_messages.specs.rr.RecordData.{type_of}
 use Rattle.wire_messages.specs.rr.RecordSameness.{SameRecord}
 use Rattle.wire_messages.specs.declared.rr.rdata.RData.{RData}
@@ -28,14 +29,15 @@ abbrev pub AreDistinct : List (Record RData) → Type 0
 AreDistinct [] = Unit {0}
 AreDistinct (r ∷ rs) = AllByRecursion (λ q. ¬ (SameRecord r q)) rs × AreDistinct rs
 
--- The data of an SOA record. Its serial is a number of 32 bits (RFC 1035 section 3.3.13), on which the arithmetic of serials rests (RFC 1982 section 3).
+-- The data of an SOA record. Its serial is a number of 32 bits (RFC 1035 section 3.3.13), on which the arithmetic of
+-- serials rests (RFC 1982 section 3).
 abbrev pub IsSoaData : RData → Type 0
 IsSoaData (rdata.SOA soa) = soa.serial < 2 ^ 32
 IsSoaData other = ⊥
 
 -- a record of type SOA has the data of one
 abbrev pub IsWellTyped : Record RData → Type 0
-IsWellTyped r = type_of r.rdata ≡ 6 → IsSoaData r.rdata
+IsWellTyped r = type_of r.rdata ≡ type_soa → IsSoaData r.rdata
 
 -- A set as a zone holds it: not empty, under its own key, no record twice, and what is of type SOA an SOA.
 pub record IsZoneSet (key : RrKey) (records : List (Record RData)) : Type 0 where

@@ -3,7 +3,7 @@
 ghost use Rattle.std.specs.Prelude.{◌≡◌, ◌==◌, ◌≤◌, length, max, IfOk, IfErr};
 ghost use Rattle.std.specs.Cmp.Lexicographic.{pointwise};
 ghost use Rattle.std.specs.Cmp.{partial_equiv_from_equiv};
-ghost use Rattle.hickory_base.specs.requests.QuestionList.{question_list};
+ghost use Rattle.hickory_base.specs.representation.QuestionList.{question_list};
 ghost use Rattle.hickory_base.specs.requests.Questions.{QuestionSection, one_query, payload_limit, edns_version, query_eq, section_eq, section_eq_equiv};
 
 use crate::errors::LookupError;
@@ -50,7 +50,7 @@ pub struct Queries {
 
 impl Model for Queries {
     ghost use Rattle.std.specs.Prelude.{◌≤◌, length};
-    ghost use Rattle.hickory_base.specs.requests.QuestionList.{question_list};
+    ghost use Rattle.hickory_base.specs.representation.QuestionList.{question_list};
     ghost use Rattle.hickory_base.specs.requests.Questions.{QuestionSection};
 
     ghost Value = { QuestionSection };
@@ -138,7 +138,7 @@ impl PartialEq for Queries {
 
     ghost laws = { partial_equiv_from_equiv section_eq_equiv };
 
-    // The names of questions are compared in any letter case, and the bytes as bytes.
+    /// The names of questions are compared in any letter case, and the bytes as bytes.
     fn eq(&self, other: &Queries) -> bool {
         are_same(self.queries(), other.queries()) && self.as_bytes() == other.as_bytes()
     }
@@ -174,7 +174,8 @@ pub struct MessageRequest {
 }
 
 impl MessageRequest {
-    /// How many bytes a UDP reply may have, as the sender says: 512 without EDNS, and never less (RFC 6891 section 6.2.3).
+    /// How many bytes a UDP reply may have, as the sender says: 512 without EDNS, and never less (RFC 6891 section
+    /// 6.2.3).
     pub fn max_payload(&self) -> u16
         ensures { result ≡ payload_limit self.now.edns }
     {

@@ -10,8 +10,8 @@ use hickory_wire::comparison_laws::{
 };
 use hickory_wire::record_comparisons;
 
-/// `==` on messages compares their fields: records as records compare, by neither TTL nor proof, names in any letter case,
-/// the bytes of the questions as bytes, and EDNS in each of its fields.
+/// `==` on messages compares their fields: records as records compare, by neither TTL nor proof, names in any letter
+/// case, the bytes of the questions as bytes, and EDNS in each of its fields.
 pub fn message_comparisons()
     ensures { (a b : RequestMessage) → IsTrue (⟦<MessageRequest as PartialEq>⟧.eq a b) ↔ SameMessage a b }
 {

@@ -40,10 +40,13 @@ impl MessageRequest {
         requires { written_bytes encoder.old ≡ [] }
         ensures same_vector { IsSameVector encoder.old encoder.new }
         ensures limit { max_size encoder.new ≡ max_size encoder.old }
-        ensures written { IfOk result (ReplyWritten (max_size encoder.old) (written_form self.now) (written_bytes encoder.new)) }
+        ensures written { IfOk result (ReplyWritten (max_size encoder.old) (written_form self.now)
+            (written_bytes encoder.new)) }
         ensures too_large { IfErr result (λ e. e ≢ ProtoError.Memory →
-            (e ≡ ProtoError.MaxSizeExceeded) ↔ (max_size encoder.old < 12 + length (questions_form self.now.queries.queries))) }
-        ensures refused { IfErr result (λ e. e ≢ ProtoError.Memory → CannotBeWritten (max_size encoder.old) (written_form self.now) e) }
+            (e ≡ ProtoError.MaxSizeExceeded) ↔
+            (max_size encoder.old < 12 + length (questions_form self.now.queries.queries))) }
+        ensures refused { IfErr result (λ e. e ≢ ProtoError.Memory →
+            CannotBeWritten (max_size encoder.old) (written_form self.now) e) }
         ensures err { OnErr result (written_bytes encoder.new ≡ []) }
     {
         let question = question_bytes(encoder.allocator(), self.queries.queries())?;
@@ -76,7 +79,8 @@ impl Request {
         protocol: Protocol,
     ) -> Result<Request, ProtoError>
         ensures message { IfOk result (λ r. r.message ≡ message) }
-        ensures written { IfOk result (λ r. (header : MessageHeader) × ReplyWritten 65535 (written_form message) r.bytes header) }
+        ensures written { IfOk result (λ r. (header : MessageHeader) ×
+            ReplyWritten 65535 (written_form message) r.bytes header) }
         ensures source { IfOk result (λ r. (r.source ≡ src) × (r.protocol ≡ protocol)) }
         ensures was_read { IfOk result (λ r. r.was_read ≡ false) }
         ensures too_large { IfErr result (λ e. e ≢ ProtoError.Memory →

@@ -1,7 +1,7 @@
 //! Reading requests (RFC 1035 section 4.1).
 
 ghost use Rattle.std.specs.Prelude.{◌≡◌, ◌≢◌, ◌<◌, ◌≤◌, [], length, IfOk, IfErr, MatchResult, OnErr, OnOk, false, true};
-ghost use Rattle.hickory_base.specs.requests.QuestionList.{question_list};
+ghost use Rattle.hickory_base.specs.representation.QuestionList.{question_list};
 ghost use Rattle.hickory_base.specs.requests.RepeatableQuestions.{AreRepeatable, HasRepeatableQuestions};
 ghost use Rattle.hickory_base.specs.requests.RequestReading.{FollowsHeader, HasNoAdditional, HasNoRecord, IsCleared, IsFaultOf, IsQuestionSection, message_of, question_section, additionals_of, sections};
 ghost use Rattle.wire_messages.specs.serialize.layout.MessageLayout.{high_code, with_high_code};
@@ -98,7 +98,7 @@ impl Queries {
         Ok(())
     }
 
-    /// The same as `read`, in the place of other questions.
+    /// Reads as `read` does, in the place of other questions.
     #[inline(always)]
     fn read_in_place(
         &mut self,
@@ -162,8 +162,8 @@ fn with_high_code(mut metadata: Metadata, edns: &Option<Edns>) -> Metadata
     metadata
 }
 
-/// So many records of an answer or authority section, in the place of others. That it is no part of another function spares
-/// requests without such records what a list of them takes on the stack.
+/// So many records of an answer or authority section, in the place of others. That it is no part of another function
+/// spares requests without such records what a list of them takes on the stack.
 #[inline(never)]
 fn read_some_records(
     alloc: Global,
@@ -243,7 +243,7 @@ impl MessageRequest {
         Ok(())
     }
 
-    /// The same in the place of none, where most requests have none too.
+    /// Reads the additional records in the place of none, where most requests have none too.
     #[tactic(auto, unfolding(crate::specs::requests::RequestReading::additionals_of, wire_messages::specs::serialize::reading::SectionReading::additionals_after))]
     fn read_additionals(
         &mut self,
@@ -278,8 +278,8 @@ impl MessageRequest {
         self.read_additionals(alloc, decoder, counts.additionals)
     }
 
-    /// The message at this place, with pointers counted from the front of the bytes (RFC 1035 section 4.1), in the place of
-    /// one without a record.
+    /// The message at this place, with pointers counted from the front of the bytes (RFC 1035 section 4.1), in the
+    /// place of one without a record.
     ///
     /// Then the decoder's place is the one behind it. After an error the place is left open.
     #[tactic(auto, unfolding(crate::specs::requests::RequestReading::question_section, crate::specs::requests::RequestReading::sections, crate::specs::requests::RequestReading::additionals_of, wire_reading::specs::serialize::reading::MessageReading::message))]
@@ -329,7 +329,8 @@ fn reading_error(e: DecodeError) -> ProtoError
 }
 
 impl Request {
-    /// Reads the message that its bytes begin with, in the place of one without a record. That it was read is not noted yet.
+    /// Reads the message that its bytes begin with, in the place of one without a record. That it was read is not noted
+    /// yet.
     #[inline(always)]
     fn read_own_bytes(&mut self, alloc: Global) -> Result<(), ProtoError>
         requires none { HasNoRecord self.old.message }
@@ -337,11 +338,15 @@ impl Request {
         ensures stands { IfOk result (λ _. MessageAt self.old.bytes (message_of self.new.message)) }
         ensures found { IfOk result (λ _. Reads self.old.bytes (message_of self.new.message)) }
         ensures questions { IfOk result (λ _. IsQuestionSection self.old.bytes self.new.message.queries) }
-        ensures repeatable { IfOk result (λ _. AreRepeatable self.old.bytes self.new.message.queries.queries → HasRepeatableQuestions self.new) }
-        ensures standing { (m : Message) → MessageAt self.old.bytes m → MatchResult result (λ _. message_of self.new.message ≡ m) (λ e. e ≡ ProtoError.Memory) }
-        ensures only { (m : Message) → Reads self.old.bytes m → MatchResult result (λ _. message_of self.new.message ≡ m) (λ e. e ≡ ProtoError.Memory) }
+        ensures repeatable { IfOk result (λ _. AreRepeatable self.old.bytes self.new.message.queries.queries →
+            HasRepeatableQuestions self.new) }
+        ensures standing { (m : Message) → MessageAt self.old.bytes m →
+            MatchResult result (λ _. message_of self.new.message ≡ m) (λ e. e ≡ ProtoError.Memory) }
+        ensures only { (m : Message) → Reads self.old.bytes m →
+            MatchResult result (λ _. message_of self.new.message ≡ m) (λ e. e ≡ ProtoError.Memory) }
         ensures fault { IfErr result (λ e. e ≢ ProtoError.Memory → IsFaultOf self.old.bytes e) }
-        ensures kept { (self.new.bytes ≡ self.old.bytes) × (self.new.source ≡ self.old.source) × (self.new.protocol ≡ self.old.protocol) × (self.new.was_read ≡ false) }
+        ensures kept { (self.new.bytes ≡ self.old.bytes) × (self.new.source ≡ self.old.source) ×
+            (self.new.protocol ≡ self.old.protocol) × (self.new.was_read ≡ false) }
     {
         match read_message(alloc, self.bytes.as_slice(), &mut self.message) {
             Ok(()) => Ok(()),
@@ -358,10 +363,13 @@ impl Request {
     }
 
     /// The request that bytes begin with (RFC 1035 section 4.1), with the address and the transport that it came from.
-    /// What stands behind the message is kept in its bytes and not looked at.
+    /// What stands behind the message is kept in its bytes and not looked at. The time grows with the message, whose
+    /// names are not walked again behind pointers, and the memory with its names and data.
+    ///
+    /// # Errors
     ///
     /// `Decode` tells the first fault of the bytes, as `Message::read` has it, and is never `Decode(Memory)`: want of
-    /// memory is `Memory`.
+    /// memory is `Memory`. The bytes are gone with an error.
     pub fn from_bytes(
         alloc: Global,
         bytes: Vec<u8>,
@@ -372,10 +380,13 @@ impl Request {
         ensures stands { IfOk result (λ r. MessageAt bytes.items (message_of r.message)) }
         ensures found { IfOk result (λ r. Reads bytes.items (message_of r.message)) }
         ensures questions { IfOk result (λ r. IsQuestionSection bytes.items r.message.queries) }
-        ensures repeatable { IfOk result (λ r. AreRepeatable bytes.items r.message.queries.queries → HasRepeatableQuestions r) }
+        ensures repeatable { IfOk result (λ r. AreRepeatable bytes.items r.message.queries.queries →
+            HasRepeatableQuestions r) }
         // What stands there is read, unless memory is refused.
-        ensures standing { (m : Message) → MessageAt bytes.items m → MatchResult result (λ r. message_of r.message ≡ m) (λ e. e ≡ ProtoError.Memory) }
-        ensures only { (m : Message) → Reads bytes.items m → MatchResult result (λ r. message_of r.message ≡ m) (λ e. e ≡ ProtoError.Memory) }
+        ensures standing { (m : Message) → MessageAt bytes.items m →
+            MatchResult result (λ r. message_of r.message ≡ m) (λ e. e ≡ ProtoError.Memory) }
+        ensures only { (m : Message) → Reads bytes.items m →
+            MatchResult result (λ r. message_of r.message ≡ m) (λ e. e ≡ ProtoError.Memory) }
         // An error is the first fault.
         ensures fault { IfErr result (λ e. e ≢ ProtoError.Memory → IsFaultOf bytes.items e) }
         ensures raw { IfOk result (λ r. r.bytes ≡ bytes.items) }
@@ -428,8 +439,10 @@ impl Request {
         ensures stands { IfOk result (λ _. MessageAt bytes.now (message_of self.new.message)) }
         ensures found { IfOk result (λ _. Reads bytes.now (message_of self.new.message)) }
         ensures questions { IfOk result (λ _. IsQuestionSection bytes.now self.new.message.queries) }
-        ensures standing { (m : Message) → MessageAt bytes.now m → MatchResult result (λ _. message_of self.new.message ≡ m) (λ e. e ≡ ProtoError.Memory) }
-        ensures only { (m : Message) → Reads bytes.now m → MatchResult result (λ _. message_of self.new.message ≡ m) (λ e. e ≡ ProtoError.Memory) }
+        ensures standing { (m : Message) → MessageAt bytes.now m →
+            MatchResult result (λ _. message_of self.new.message ≡ m) (λ e. e ≡ ProtoError.Memory) }
+        ensures only { (m : Message) → Reads bytes.now m →
+            MatchResult result (λ _. message_of self.new.message ≡ m) (λ e. e ≡ ProtoError.Memory) }
         ensures fault { IfErr result (λ e. e ≢ ProtoError.Memory → IsFaultOf bytes.now e) }
         ensures raw { OnOk result (self.new.bytes ≡ bytes.now) }
         ensures was_read { OnOk result (self.new.was_read ≡ true) }
@@ -442,10 +455,11 @@ impl Request {
         Ok(())
     }
 
-    /// The same as `from_bytes`, in the place of this request: its memory is used again, and no request is made or handed
-    /// on. So a server may read each message that comes.
+    /// Reads as `from_bytes` does, in the place of this request: its memory is used again, and no request is made or
+    /// handed on. So a server may read each message that comes.
     ///
-    /// After an error nothing is left of its message: it has no bytes, no question and no record, and the header of a query with id 0; and it was not read.
+    /// After an error nothing is left of its message: it has no bytes, no question and no record, and the header of a
+    /// query with id 0; and it was not read.
     #[inline(always)]
     pub fn read_in_place(
         &mut self,
@@ -459,8 +473,10 @@ impl Request {
         ensures found { IfOk result (λ _. Reads bytes.now (message_of self.new.message)) }
         ensures questions { IfOk result (λ _. IsQuestionSection bytes.now self.new.message.queries) }
         // What stands there is read, unless memory is refused.
-        ensures standing { (m : Message) → MessageAt bytes.now m → MatchResult result (λ _. message_of self.new.message ≡ m) (λ e. e ≡ ProtoError.Memory) }
-        ensures only { (m : Message) → Reads bytes.now m → MatchResult result (λ _. message_of self.new.message ≡ m) (λ e. e ≡ ProtoError.Memory) }
+        ensures standing { (m : Message) → MessageAt bytes.now m →
+            MatchResult result (λ _. message_of self.new.message ≡ m) (λ e. e ≡ ProtoError.Memory) }
+        ensures only { (m : Message) → Reads bytes.now m →
+            MatchResult result (λ _. message_of self.new.message ≡ m) (λ e. e ≡ ProtoError.Memory) }
         // An error is the first fault, and nothing is left.
         ensures fault { IfErr result (λ e. e ≢ ProtoError.Memory → IsFaultOf bytes.now e) }
         ensures err { OnErr result (IsCleared self.new) }

@@ -6,7 +6,7 @@ ghost use Rattle.std.specs.Iterator.{IsFinite};
 ghost use Rattle.wire_messages.specs.serialize.writing.Reply.{Reply, size_limit};
 ghost use Rattle.hickory_wire.specs.serialize.writing.ReplyParts.{ReplyEncoded};
 ghost use Rattle.hickory_base.specs.responses.EncodingSinks.{IsEncodingOf, TellsEncoding};
-ghost use Rattle.hickory_base.specs.responses.Responses.{IsReplyBy, header_of};
+ghost use Rattle.hickory_base.specs.responses.Responses.{GivesBy, IsReplyOf, header_of};
 
 use crate::requests::message_request::Queries;
 use crate::responses::message_response::{MessageResponse, ResponseInfo, size_limit};
@@ -51,7 +51,7 @@ impl EncodingSink {
         EncodingSink::reusing(alloc, protocol, Items::new(alloc))
     }
 
-    /// The same in the place of replies that were sent, whose memory it uses again.
+    /// A sink without replies, in the place of some that were sent, whose memory it uses again.
     // speed: served, an address
     #[inline(always)]
     pub fn reusing(alloc: Global, protocol: Protocol, sent: Items<Octets>) -> EncodingSink
@@ -134,8 +134,8 @@ impl ResponseHandler for EncodingSink {
 
     ghost failures = { λ s. s.failures };
 
-    /// Keeps the bytes of a reply, and tells their header. An `Err` says that memory was refused: it counts one failure, and
-    /// the replies are as they were.
+    /// Keeps the bytes of a reply, and tells their header. An `Err` says that memory was refused: it counts one
+    /// failure, and the replies are as they were.
     fn send_response<'q, 'a, A, N, S, D>(
         &mut self,
         alloc: Global,
@@ -155,7 +155,8 @@ impl ResponseHandler for EncodingSink {
         requires soa { S.can_next response.soa × IsFinite (S.remaining response.soa) }
         requires additionals { D.can_next response.additionals × IsFinite (D.remaining response.additionals) }
         ensures kept { IfOk result (λ info. (reply : Reply) × (bytes : List ℕ) ×
-            IsReplyBy A.next_gives A.Item.record_of N.next_gives N.Item.record_of S.next_gives S.Item.record_of D.next_gives D.Item.record_of response.entry reply ×
+            IsReplyOf (GivesBy A.next_gives A.Item.record_of) (GivesBy N.next_gives N.Item.record_of)
+            (GivesBy S.next_gives S.Item.record_of) (GivesBy D.next_gives D.Item.record_of) response.entry reply ×
             ReplyEncoded (size_limit self.old.protocol reply.edns) reply bytes (header_of info) ×
             (self.new ≡ record self.old { replies = self.old.replies ++ bytes ∷ [] })) }
         ensures unkept { OnErr result (self.new ≡ record self.old { failures = (self.old.failures + 1) % 2 ^ 64 }) }

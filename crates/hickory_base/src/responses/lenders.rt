@@ -2,7 +2,7 @@
 
 ghost use Rattle.std.specs.Prelude.{◌≡◌, [], ◌∷◌, ◌++◌, IfOk, IsTrue, OnOk};
 ghost use Rattle.std.specs.Mem.{FitsInMemory};
-ghost use Rattle.hickory_base.specs.responses.LenderLists.{CanLend, lender_list};
+ghost use Rattle.hickory_base.specs.representation.LenderLists.{CanLend, lender_list};
 
 use std::alloc::{AllocError, Global};
 use std::{mem, slice};

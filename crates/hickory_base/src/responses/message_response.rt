@@ -5,11 +5,11 @@ ghost use Rattle.std.specs.Iterator.{IsFinite};
 ghost use Rattle.std.specs.Iterator.Adapters.{once_item};
 ghost use Rattle.std.specs.Option.{option_copied};
 ghost use Rattle.hickory_wire.specs.serialize.writing.Encoder.{IsSameVector, max_size, written_bytes};
-ghost use Rattle.wire_writing.specs.serialize.writing.Endings.{GivesRecords};
+ghost use Rattle.wire_writing.specs.representation.Endings.{GivesRecords};
 ghost use Rattle.wire_messages.specs.serialize.writing.Reply.{Reply, size_limit};
 ghost use Rattle.hickory_wire.specs.serialize.writing.ReplyParts.{CannotBeWritten, ReplyEncoded, ReplyWritten};
 ghost use Rattle.std.specs.Borrow.{sem};
-ghost use Rattle.hickory_base.specs.responses.Lending.{LendsMetadata};
+ghost use Rattle.hickory_base.specs.representation.Lending.{LendsMetadata};
 ghost use Rattle.hickory_base.specs.responses.Responses.{HasNoRecords, IsBuilt, IsReplyOf, base_of, error_metadata, header_of};
 
 use crate::requests::message_request::{MessageRequest, Queries};
@@ -56,7 +56,8 @@ impl From<Header> for ResponseInfo {
 /// An iterator for a section without records: that of `iter::empty`.
 pub type EmptySection<'a> = iter::Once<&'a Record>;
 
-/// A reply to a request: it borrows the request's questions, and its records are given by four iterators over `&'a Record`.
+/// A reply to a request: it borrows the request's questions, and its records are given by four iterators over `&'a
+/// Record`.
 #[derive(Drop)]
 pub struct MessageResponse<'q, 'a, A, N, S, D> {
     /// The header but for its counts, with the whole response code.
@@ -140,12 +141,14 @@ where
         ensures same_vector { IsSameVector encoder.old encoder.new }
         ensures limit { max_size encoder.new ≡ max_size encoder.old }
         ensures written { IfOk result (λ info. (reply : Reply) ×
-            IsReplyOf (GivesRecords A.next_gives) (GivesRecords N.next_gives) (GivesRecords S.next_gives) (GivesRecords D.next_gives) self.entry reply ×
+            IsReplyOf (GivesRecords A.next_gives) (GivesRecords N.next_gives) (GivesRecords S.next_gives)
+            (GivesRecords D.next_gives) self.entry reply ×
             ReplyWritten (max_size encoder.old) reply (written_bytes encoder.new) (header_of info)) }
         ensures too_large { (result ≡ Err ProtoError.MaxSizeExceeded) ↔
             (max_size encoder.old < 12 + length self.entry.queries.now.bytes) }
         ensures refused { IfErr result (λ e. e ≢ ProtoError.Memory → (reply : Reply) ×
-            IsReplyOf (GivesRecords A.next_gives) (GivesRecords N.next_gives) (GivesRecords S.next_gives) (GivesRecords D.next_gives) self.entry reply ×
+            IsReplyOf (GivesRecords A.next_gives) (GivesRecords N.next_gives) (GivesRecords S.next_gives)
+            (GivesRecords D.next_gives) self.entry reply ×
             CannotBeWritten (max_size encoder.old) reply e) }
         ensures err { OnErr result (written_bytes encoder.new ≡ []) }
     {
@@ -178,9 +181,9 @@ where
     /// The bytes of the reply over a transport, and what is told of it.
     ///
     /// Over UDP the limit is the payload that the reply's OPT record tells, 512 bytes without one (RFC 1035 section
-    /// 4.2.1, RFC 6891 sections 6.2.3 and 6.2.4); else 65,535. Where header and questions pass the limit, or a record is
-    /// reached that has no form in bytes, the bytes are a header of the same id that says ServFail, and nothing else.
-    /// Only want of memory is an `Err`.
+    /// 4.2.1, RFC 6891 sections 6.2.3 and 6.2.4); else 65,535. Where header and questions pass the limit, or a record
+    /// is reached that has no form in bytes, the bytes are a header of the same id that says ServFail, and nothing
+    /// else. Only want of memory is an `Err`.
     pub fn encode(
         self,
         alloc: Global,
@@ -191,7 +194,8 @@ where
         requires soa { S.can_next self.soa × IsFinite (S.remaining self.soa) }
         requires additionals { D.can_next self.additionals × IsFinite (D.remaining self.additionals) }
         ensures encoded { IfOk result (λ made. (reply : Reply) ×
-            IsReplyOf (GivesRecords A.next_gives) (GivesRecords N.next_gives) (GivesRecords S.next_gives) (GivesRecords D.next_gives) self.entry reply ×
+            IsReplyOf (GivesRecords A.next_gives) (GivesRecords N.next_gives) (GivesRecords S.next_gives)
+            (GivesRecords D.next_gives) self.entry reply ×
             ReplyEncoded (size_limit protocol reply.edns) reply made.1.items (header_of made.0)) }
         ensures err { OnErr result (result ≡ Err ProtoError.Memory) }
     {

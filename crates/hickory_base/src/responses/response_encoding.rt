@@ -4,8 +4,8 @@ ghost use Rattle.std.specs.Prelude.{◌≡◌, IfOk, OnOk, OnErr, map};
 ghost use Rattle.std.specs.Iterator.{IsFinite};
 ghost use Rattle.wire_messages.specs.serialize.writing.Reply.{Reply, size_limit};
 ghost use Rattle.hickory_wire.specs.serialize.writing.ReplyParts.{RecordLists, ReplyEncoded, reply_of};
-ghost use Rattle.hickory_base.specs.responses.LenderLists.{CanLend, lender_list};
-ghost use Rattle.hickory_base.specs.responses.Responses.{GivesBy, IsReplyBy, header_of};
+ghost use Rattle.hickory_base.specs.representation.LenderLists.{CanLend, lender_list};
+ghost use Rattle.hickory_base.specs.responses.Responses.{GivesBy, IsReplyOf, header_of};
 
 use crate::responses::lenders::Lenders;
 use crate::responses::message_response::{MessageResponse, ResponseInfo, borrowed, size_limit};
@@ -21,7 +21,8 @@ where
     requires none { lenders.old ≡ Lenders.Empty }
     requires can { I.can_next records }
     requires ends { IsFinite (I.remaining records) }
-    ensures gives { OnOk result (GivesBy I.next_gives I.Item.record_of records (map I.Item.record_of (lender_list lenders.new))) }
+    ensures gives { OnOk result (GivesBy I.next_gives I.Item.record_of records
+        (map I.Item.record_of (lender_list lenders.new))) }
     ensures lend { OnOk result (CanLend I.Item.row lenders.new) }
 {
     'records: for item in records {
@@ -37,7 +38,16 @@ fn encode_lent<A: RecordRef, N: RecordRef, S: RecordRef, D: RecordRef>(
     limit: u16,
     parts: ReplyParts<'_, &[A], &[N], &[S], &[D]>,
 ) -> Result<(Header, Vec<u8>), ProtoError>
-    ensures encoded { IfOk result (λ made. ReplyEncoded limit (reply_of parts.entry (record { answers = map A.record_of parts.entry.answers.now; authorities = map N.record_of parts.entry.authorities.now; soa = map S.record_of parts.entry.soa.now; additionals = map D.record_of parts.entry.additionals.now })) made.1.items made.0) }
+    ensures encoded { IfOk result (λ made.
+        ReplyEncoded limit (reply_of parts.entry
+        (record {
+          answers = map A.record_of parts.entry.answers.now;
+          authorities = map N.record_of
+              parts.entry.authorities.now;
+          soa = map S.record_of parts.entry.soa.now;
+          additionals = map D.record_of
+              parts.entry.additionals.now;
+        })) made.1.items made.0) }
     ensures err { OnErr result (result ≡ Err ProtoError.Memory) }
 {
     let parts = ReplyParts {
@@ -74,8 +84,10 @@ where
     requires soa { S.can_next parts.soa × IsFinite (S.remaining parts.soa) }
     requires additionals { D.can_next parts.additionals × IsFinite (D.remaining parts.additionals) }
     ensures encoded { IfOk result (λ made. (lists : RecordLists) ×
-        GivesBy A.next_gives A.Item.record_of parts.entry.answers lists.answers × GivesBy N.next_gives N.Item.record_of parts.entry.authorities lists.authorities ×
-        GivesBy S.next_gives S.Item.record_of parts.entry.soa lists.soa × GivesBy D.next_gives D.Item.record_of parts.entry.additionals lists.additionals ×
+        GivesBy A.next_gives A.Item.record_of parts.entry.answers lists.answers ×
+        GivesBy N.next_gives N.Item.record_of parts.entry.authorities lists.authorities ×
+        GivesBy S.next_gives S.Item.record_of parts.entry.soa lists.soa ×
+        GivesBy D.next_gives D.Item.record_of parts.entry.additionals lists.additionals ×
         ReplyEncoded limit (reply_of parts.entry lists) made.1.items made.0) }
     ensures err { OnErr result (result ≡ Err ProtoError.Memory) }
 {
@@ -121,33 +133,24 @@ where
     requires soa { S.can_next response.soa × IsFinite (S.remaining response.soa) }
     requires additionals { D.can_next response.additionals × IsFinite (D.remaining response.additionals) }
     ensures encoded { IfOk result (λ made. (reply : Reply) ×
-        IsReplyBy A.next_gives A.Item.record_of N.next_gives N.Item.record_of S.next_gives S.Item.record_of D.next_gives D.Item.record_of response.entry reply ×
+        IsReplyOf (GivesBy A.next_gives A.Item.record_of) (GivesBy N.next_gives N.Item.record_of)
+        (GivesBy S.next_gives S.Item.record_of) (GivesBy D.next_gives D.Item.record_of) response.entry reply ×
         ReplyEncoded (size_limit protocol reply.edns) reply made.1.items (header_of made.0)) }
     ensures err { OnErr result (result ≡ Err ProtoError.Memory) }
 {
-    let MessageResponse {
-        metadata,
-        queries,
-        answers,
-        authorities,
-        soa,
-        additionals,
-        signature,
-        edns,
-        ..
-    } = response;
+    let signature = response.signature;
     let parts = ReplyParts {
-        metadata,
-        question: queries.as_bytes(),
-        question_count: queries.count(),
-        edns,
-        answers,
-        authorities,
-        soa,
-        additionals,
+        metadata: response.metadata,
+        question: response.queries.as_bytes(),
+        question_count: response.queries.count(),
+        edns: response.edns,
+        answers: response.answers,
+        authorities: response.authorities,
+        soa: response.soa,
+        additionals: response.additionals,
         signature: borrowed(&signature),
     };
-    let made = encode_parts(alloc, size_limit(protocol, edns), parts);
+    let made = encode_parts(alloc, size_limit(protocol, response.edns), parts);
     drop(signature);
     let (header, bytes) = made?;
     Ok((ResponseInfo::from(header), bytes))

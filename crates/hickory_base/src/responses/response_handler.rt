@@ -34,16 +34,16 @@ impl RecordRef for &Record {
 /// What replies are handed to: a sink.
 ///
 /// A contract sees a sink as the list of its entries, one for each reply that it took, and the number of its failures,
-/// which begins again at 0 after 2^64 - 1. `shows` relates a reply with its entry, and `informs` a reply and its entry with
-/// the header that the sink's answer tells. Both may depend on settings of the sink, such as its transport, which no call changes.
-/// A sink over a socket may have relations that always hold.
+/// which begins again at 0 after 2^64 - 1. `shows` relates a reply with its entry, and `informs` a reply and its entry
+/// with the header that the sink's answer tells. Both may depend on settings of the sink, such as its transport, which
+/// no call changes. A sink over a socket may have relations that always hold.
 pub trait ResponseHandler {
     ghost use Rattle.std.specs.Prelude.{◌≡◌, ◌+◌, ◌%◌, ◌^◌, ◌⊎◌, ℕ, List, IfOk, OnOk, OnErr};
     ghost use Rattle.std.specs.Iterator.{IsFinite};
     ghost use Rattle.std.specs.Option.{option_copied};
     ghost use Rattle.wire_messages.specs.serialize.writing.Reply.{Reply};
     ghost use Rattle.wire_messages.specs.declared.op.header.Header.{Header};
-    ghost use Rattle.hickory_base.specs.responses.Responses.{IsReplyBy, header_of, lent_reply};
+    ghost use Rattle.hickory_base.specs.responses.Responses.{GivesBy, IsReplyOf, header_of, lent_reply};
     ghost use Rattle.hickory_base.specs.responses.Sinks.{AddsEntry};
 
     /// What the sink keeps of a reply.
@@ -84,17 +84,21 @@ pub trait ResponseHandler {
         requires soa { S.can_next response.soa × IsFinite (S.remaining response.soa) }
         requires additionals { D.can_next response.additionals × IsFinite (D.remaining response.additionals) }
         ensures ok { IfOk result (λ info. (reply : Reply) ×
-            IsReplyBy A.next_gives A.Item.record_of N.next_gives N.Item.record_of S.next_gives S.Item.record_of D.next_gives D.Item.record_of response.entry reply ×
-            AddsEntry (λ entry. shows (settings self.old) reply entry × informs (settings self.old) reply entry (header_of info)) (entries self.old) (entries self.new)) }
+            IsReplyOf (GivesBy A.next_gives A.Item.record_of) (GivesBy N.next_gives N.Item.record_of)
+            (GivesBy S.next_gives S.Item.record_of) (GivesBy D.next_gives D.Item.record_of) response.entry reply ×
+            AddsEntry (λ entry. shows (settings self.old) reply entry ×
+            informs (settings self.old) reply entry (header_of info)) (entries self.old) (entries self.new)) }
         ensures uncounted { OnOk result (failures self.new ≡ failures self.old) }
         ensures err { OnErr result (((reply : Reply) ×
-            IsReplyBy A.next_gives A.Item.record_of N.next_gives N.Item.record_of S.next_gives S.Item.record_of D.next_gives D.Item.record_of response.entry reply ×
-            AddsEntry (shows (settings self.old) reply) (entries self.old) (entries self.new)) ⊎ (entries self.new ≡ entries self.old)) }
+            IsReplyOf (GivesBy A.next_gives A.Item.record_of) (GivesBy N.next_gives N.Item.record_of)
+            (GivesBy S.next_gives S.Item.record_of) (GivesBy D.next_gives D.Item.record_of) response.entry reply ×
+            AddsEntry (shows (settings self.old) reply) (entries self.old) (entries self.new)) ⊎
+            (entries self.new ≡ entries self.old)) }
         ensures counted { OnErr result (failures self.new ≡ (failures self.old + 1) % 2 ^ 64) }
         ensures settled { settings self.new ≡ settings self.old };
 
-    /// Hands a reply over that has these records where they lie, and no signature. The answer, and what stands after it, are those of `send_response`, which a sink
-    /// is handed that does not say otherwise.
+    /// Hands a reply over that has these records where they lie, and no signature. The answer, and what stands after
+    /// it, are those of `send_response`, which a sink is handed that does not say otherwise.
     fn send_lent<'q>(
         &mut self,
         alloc: Global,
@@ -106,11 +110,16 @@ pub trait ResponseHandler {
         additionals: &[Record],
     ) -> Result<ResponseInfo, io::Error>
         ensures ok { IfOk result (λ info. AddsEntry
-            (λ entry. shows (settings self.old) (lent_reply queries.now (option_copied edns.entry) metadata answers.now authorities.now additionals.now) entry ×
-            informs (settings self.old) (lent_reply queries.now (option_copied edns.entry) metadata answers.now authorities.now additionals.now) entry (header_of info))
+            (λ entry. shows (settings self.old)
+            (lent_reply queries.now (option_copied edns.entry) metadata answers.now authorities.now additionals.now)
+            entry ×
+            informs (settings self.old) (lent_reply queries.now (option_copied edns.entry) metadata answers.now
+            authorities.now additionals.now) entry (header_of info))
             (entries self.old) (entries self.new)) }
         ensures uncounted { OnOk result (failures self.new ≡ failures self.old) }
-        ensures err { OnErr result (AddsEntry (shows (settings self.old) (lent_reply queries.now (option_copied edns.entry) metadata answers.now authorities.now additionals.now))
+        ensures err { OnErr result (AddsEntry
+            (shows (settings self.old) (lent_reply queries.now (option_copied edns.entry) metadata answers.now
+            authorities.now additionals.now))
             (entries self.old) (entries self.new) ⊎ (entries self.new ≡ entries self.old)) }
         ensures counted { OnErr result (failures self.new ≡ (failures self.old + 1) % 2 ^ 64) }
         ensures settled { settings self.new ≡ settings self.old }
@@ -130,8 +139,8 @@ pub trait ResponseHandler {
 pub trait RequestHandler {
     ghost use Rattle.std.specs.Prelude.{◌≡◌, OnErr};
 
-    /// Handles a request, and answers what the sink told of its reply, or of the last that was handed over where there are several. `now` is
-    /// in seconds since 1970.
+    /// Handles a request, and answers what the sink told of its reply, or of the last that was handed over where there
+    /// are several. `now` is in seconds since 1970.
     ///
     /// After an `Err` no reply was handed over.
     fn handle_request<R: ResponseHandler>(
@@ -141,6 +150,7 @@ pub trait RequestHandler {
         now: u64,
         sink: &mut R,
     ) -> Result<ResponseInfo, CatalogError>
-        ensures err { OnErr result ((R.entries sink.new ≡ R.entries sink.old) × (R.failures sink.new ≡ R.failures sink.old)) }
+        ensures err { OnErr result ((R.entries sink.new ≡ R.entries sink.old) ×
+            (R.failures sink.new ≡ R.failures sink.old)) }
         ensures settled { R.settings sink.new ≡ R.settings sink.old };
 }

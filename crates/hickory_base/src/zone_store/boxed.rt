@@ -34,7 +34,9 @@ impl ZoneHandler for Box<dyn ZoneHandler> {
 
     ghost nsec3_gives = { λ b. (ZoneHandler-box b).nsec3_gives b.value };
 
-    ghost update_gives = { λ b request now answer context new. (state : _) × (ZoneHandler-box b).update_gives b.value request now answer context state × (new ≡ record b { value = state }) };
+    ghost update_gives = { λ b request now answer context new. (state : _) ×
+        (ZoneHandler-box b).update_gives b.value request now answer context state ×
+        (new ≡ record b { value = state }) };
 
     fn zone_type(&self) -> ZoneType {
         (**self).zone_type()
@@ -134,8 +136,8 @@ impl ZoneHandler for Box<dyn ZoneHandler> {
         info: Nsec3QueryInfo<'_>,
         options: LookupOptions,
     ) -> LookupControlFlow<AuthLookup<'_>> {
-        // Made anew, so that the argument keeps the lifetime that the signature gives it: lent to the handler inside as it
-        // is, it would have that of the call.
+        // Made anew, so that the argument keeps the lifetime that the signature gives it: lent to the handler inside as
+        // it is, it would have that of the call.
         let info = Nsec3QueryInfo {
             qtype: info.qtype,
             ..info

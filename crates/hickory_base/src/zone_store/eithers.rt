@@ -25,17 +25,28 @@ impl<L: ZoneHandler, R: ZoneHandler> ZoneHandler for Either<L, R> {
 
     ghost nx_proof_kind_of = { either L.nx_proof_kind_of R.nx_proof_kind_of };
 
-    ghost lookup_gives = { λ handler name record_type info options flow. MatchEither handler (λ left. L.lookup_gives left name record_type info options flow) (λ right. R.lookup_gives right name record_type info options flow) };
+    ghost lookup_gives = { λ handler name record_type info options flow.
+        MatchEither handler (λ left. L.lookup_gives left name record_type info options flow)
+        (λ right. R.lookup_gives right name record_type info options flow) };
 
-    ghost search_gives = { λ handler request options flow context. MatchEither handler (λ left. L.search_gives left request options flow context) (λ right. R.search_gives right request options flow context) };
+    ghost search_gives = { λ handler request options flow context.
+        MatchEither handler (λ left. L.search_gives left request options flow context)
+        (λ right. R.search_gives right request options flow context) };
 
-    ghost consult_gives = { λ handler name record_type info options last flow context. MatchEither handler (λ left. L.consult_gives left name record_type info options last flow context) (λ right. R.consult_gives right name record_type info options last flow context) };
+    ghost consult_gives = { λ handler name record_type info options last flow context.
+        MatchEither handler (λ left. L.consult_gives left name record_type info options last flow context)
+        (λ right. R.consult_gives right name record_type info options last flow context) };
 
-    ghost transfer_gives = { λ handler request options now answer. MatchEither handler (λ left. L.transfer_gives left request options now answer) (λ right. R.transfer_gives right request options now answer) };
+    ghost transfer_gives = { λ handler request options now answer.
+        MatchEither handler (λ left. L.transfer_gives left request options now answer)
+        (λ right. R.transfer_gives right request options now answer) };
 
-    ghost nsec_gives = { λ handler name options flow. MatchEither handler (λ left. L.nsec_gives left name options flow) (λ right. R.nsec_gives right name options flow) };
+    ghost nsec_gives = { λ handler name options flow. MatchEither handler (λ left. L.nsec_gives left name options flow)
+        (λ right. R.nsec_gives right name options flow) };
 
-    ghost nsec3_gives = { λ handler question options flow. MatchEither handler (λ left. L.nsec3_gives left question options flow) (λ right. R.nsec3_gives right question options flow) };
+    ghost nsec3_gives = { λ handler question options flow.
+        MatchEither handler (λ left. L.nsec3_gives left question options flow)
+        (λ right. R.nsec3_gives right question options flow) };
 
     ghost update_gives = { UpdatesEither L.update_gives R.update_gives };
 
@@ -171,8 +182,8 @@ impl<L: ZoneHandler, R: ZoneHandler> ZoneHandler for Either<L, R> {
         info: Nsec3QueryInfo<'_>,
         options: LookupOptions,
     ) -> LookupControlFlow<AuthLookup<'_>> {
-        // Made anew, so that the argument keeps the lifetime that the signature gives it: lent to the handler inside as it
-        // is, it would have that of the call.
+        // Made anew, so that the argument keeps the lifetime that the signature gives it: lent to the handler inside as
+        // it is, it would have that of the call.
         let info = Nsec3QueryInfo {
             qtype: info.qtype,
             ..info

@@ -3,6 +3,7 @@
 ghost use Rattle.std.specs.Prelude.{◌≡◌, ◌==◌, false, IfOk, IfSome, Some, None, Err};
 ghost use Rattle.std.specs.Option.{option_copied};
 ghost use Rattle.std.specs.Map.{lookup};
+ghost use Rattle.wire_messages.specs.Numbers.{type_any};
 ghost use Rattle.hickory_base.specs.zone_store.ZoneAnswers.{OrMemory, any_answer, set_answer, set_or_denial, zone_answer, is_in_use, records_at};
 ghost use Rattle.hickory_base.specs.zone_store.ZoneSets.{is_key, keys_at, sets_of};
 
@@ -33,7 +34,8 @@ pub(crate) fn share_under(
     sets: &BTreeMap<RrKey, Rc<RecordSet>>,
     key: &RrKey,
 ) -> Option<Rc<RecordSet>>
-    ensures { IfSome result (λ set. lookup (is_key key.now.name key.now.record_type) (sets_of sets.now) ≡ Some set.value) }
+    ensures { IfSome result (λ set. lookup (is_key key.now.name key.now.record_type)
+        (sets_of sets.now) ≡ Some set.value) }
 {
     match sets.get(key) {
         None => None,
@@ -121,8 +123,8 @@ fn find_any<'m>(
     Ok(AuthLookup::owned(Items::from_vec(records)))
 }
 
-/// The records of the key's name and a type, where they lie. No type is below that of the key, so that the sets of the name
-/// stand behind it. It needs no memory.
+/// The records of the key's name and a type, where they lie. No type is below that of the key, so that the sets of the
+/// name stand behind it. It needs no memory.
 fn find_set<'m>(
     alloc: Global,
     sets: &'m BTreeMap<RrKey, Rc<RecordSet>>,
@@ -154,7 +156,8 @@ pub(crate) fn find_from<'m>(
 ) -> Result<AuthLookup<'m>, LookupError>
     requires { first.now.record_type ≡ 0 }
     ensures found { OrMemory (zone_answer (sets_of sets.now) first.now.name record_type) result }
-    ensures lent { (record_type == 255) ≡ false → result ≡ zone_answer (sets_of sets.now) first.now.name record_type }
+    ensures lent { (record_type == type_any) ≡ false →
+        result ≡ zone_answer (sets_of sets.now) first.now.name record_type }
 {
     if record_type.value() == RecordType::ANY.value() {
         find_any(alloc, sets, first)

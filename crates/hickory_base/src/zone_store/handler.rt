@@ -102,15 +102,18 @@ pub trait ZoneHandler: Drop {
 
     ghost search_gives: { Self → ReceivedRequest → LookupOptions → Flow → Option TSigResponseContext → Type 0 };
 
-    ghost consult_gives: { Self → DomainName → ℕ → Option RequestInformation → LookupOptions → Flow → Flow → Option TSigResponseContext → Type 0 };
+    ghost consult_gives: { Self → DomainName → ℕ → Option RequestInformation → LookupOptions → Flow → Flow →
+        Option TSigResponseContext → Type 0 };
 
-    ghost transfer_gives: { Self → ReceivedRequest → LookupOptions → ℕ → Option (Result ZoneTransfer LookupError × Option TSigResponseContext) → Type 0 };
+    ghost transfer_gives: { Self → ReceivedRequest → LookupOptions → ℕ →
+        Option (Result ZoneTransfer LookupError × Option TSigResponseContext) → Type 0 };
 
     ghost nsec_gives: { Self → DomainName → LookupOptions → Flow → Type 0 };
 
     ghost nsec3_gives: { Self → Nsec3Question → LookupOptions → Flow → Type 0 };
 
-    ghost update_gives: { Self → ReceivedRequest → ℕ → Result Bool UpdateFault → Option TSigResponseContext → Self → Type 0 };
+    ghost update_gives: { Self → ReceivedRequest → ℕ → Result Bool UpdateFault → Option TSigResponseContext → Self →
+        Type 0 };
 
     /// What the server is to the zone.
     fn zone_type(&self) -> ZoneType
@@ -141,9 +144,11 @@ pub trait ZoneHandler: Drop {
         info: Option<&RequestInfo<'_>>,
         options: LookupOptions,
     ) -> LookupControlFlow<AuthLookup<'_>>
-        ensures { lookup_gives self.now name.now record_type (option_map information_of (option_copied info.entry)) options result };
+        ensures { lookup_gives self.now name.now record_type (option_map information_of (option_copied info.entry))
+            options result };
 
-    /// Answers a request, with what a signer of the reply has to know. The records of the answer may lie in the handler.
+    /// Answers a request, with what a signer of the reply has to know. The records of the answer may lie in the
+    /// handler.
     fn search(
         &self,
         alloc: Global,
@@ -155,8 +160,9 @@ pub trait ZoneHandler: Drop {
     )
         ensures { search_gives self.now request.now options result.0 result.1 };
 
-    /// Puts the whole reply to a request where the caller sends it from, where `search` may answer with it and with nothing for a signer. Returns whether it did; where
-    /// it did not, `search` is to be asked, and nothing is promised of the reply. A handler that does not say otherwise never does.
+    /// Puts the whole reply to a request where the caller sends it from, where `search` may answer with it and with
+    /// nothing for a signer. Returns whether it did; where it did not, `search` is to be asked, and nothing is promised
+    /// of the reply. A handler that does not say otherwise never does.
     fn search_whole<'z>(
         &'z self,
         alloc: Global,
@@ -182,7 +188,8 @@ pub trait ZoneHandler: Drop {
         LookupControlFlow<AuthLookup<'z>>,
         Option<TSigResponseContext>,
     )
-        ensures { consult_gives self.now name.now record_type (option_map information_of (option_copied info.entry)) options last.entry result.0 result.1 };
+        ensures { consult_gives self.now name.now record_type (option_map information_of (option_copied info.entry))
+            options last.entry result.0 result.1 };
 
     /// Gives the whole zone, or `None` where another handler is to be asked. `now` is in seconds since 1970.
     fn zone_transfer(

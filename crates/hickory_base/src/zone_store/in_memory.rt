@@ -6,6 +6,7 @@ mod records;
 ghost use Rattle.std.specs.Prelude.{◌≡◌, ◌↔◌, IsTrue, []};
 ghost use Rattle.std.specs.Map.{lookup};
 ghost use Rattle.std.specs.Option.{option_copied};
+ghost use Rattle.wire_messages.specs.Numbers.{class_in, type_soa};
 ghost use Rattle.hickory_base.specs.zone_store.ZoneAnswers.{zone_soa, soa_serial};
 ghost use Rattle.hickory_base.specs.zone_store.ZoneSets.{AreDistinct, AreSetsInOrder, IsZone, is_key, sets_of, zone_records};
 
@@ -27,8 +28,8 @@ use std::rc::Rc;
 pub struct InMemoryZoneHandler {
     // The key of the zone's SOA record, whose name is the origin: it is looked up without memory for a key.
     apex: RrKey,
-    // A share of the set under that key: each denial reads it, and so needs no look-up. Where there is none, the set may
-    // still stand in the map, since a share is not to be had where too many are counted.
+    // A share of the set under that key: each denial reads it, and so needs no look-up. Where there is none, the set
+    // may still stand in the map, since a share is not to be had where too many are counted.
     soa: Option<Rc<RecordSet>>,
     zone_type: ZoneType,
     axfr_policy: AxfrPolicy,
@@ -38,15 +39,24 @@ pub struct InMemoryZoneHandler {
 impl Model for InMemoryZoneHandler {
     ghost use Rattle.std.specs.Prelude.{◌≡◌, IfSome, Some};
     ghost use Rattle.std.specs.Map.{lookup};
+    ghost use Rattle.wire_messages.specs.Numbers.{type_soa};
     ghost use Rattle.hickory_base.specs.zone_store.ZoneAnswers.{MemoryZone};
 
     ghost Value = { MemoryZone };
 
     ghost use Rattle.hickory_base.specs.zone_store.ZoneSets.{AreSetsInOrder, IsZone, is_key, sets_of};
 
-    ghost view = { λ z. record { origin = z.apex.name; zone_type = z.zone_type; axfr_policy = z.axfr_policy; sets = sets_of z.records } };
+    ghost view = { λ z. record {
+      origin = z.apex.name;
+      zone_type = z.zone_type;
+      axfr_policy = z.axfr_policy;
+      sets =
+          sets_of z.records;
+    } };
 
-    ghost invariant = { λ z. (z.apex.record_type ≡ 6) × IsZone (sets_of z.records) × AreSetsInOrder (sets_of z.records) × IfSome z.soa (λ set. lookup (is_key z.apex.name 6) (sets_of z.records) ≡ Some set.value) };
+    ghost invariant = { λ z. (z.apex.record_type ≡ type_soa) × IsZone (sets_of z.records) ×
+        AreSetsInOrder (sets_of z.records) ×
+        IfSome z.soa (λ set. lookup (is_key z.apex.name type_soa) (sets_of z.records) ≡ Some set.value) };
 }
 
 impl InMemoryZoneHandler {
@@ -58,7 +68,8 @@ impl InMemoryZoneHandler {
         is_zone(records)
     }
 
-    /// The zone of these sets, which `accepts` takes. It needs no memory.
+    /// The zone of these sets, which `accepts` takes. It needs no memory, and looks at no set: `accepts` walks over
+    /// each once.
     pub fn new(
         origin: LowerName,
         records: BTreeMap<RrKey, Rc<RecordSet>>,
@@ -66,7 +77,13 @@ impl InMemoryZoneHandler {
         axfr_policy: AxfrPolicy,
     ) -> InMemoryZoneHandler
         requires { IsZone (sets_of records) }
-        ensures { result ≡ record { origin = origin; zone_type = zone_type; axfr_policy = axfr_policy; sets = sets_of records } }
+        ensures { result ≡ record {
+          origin = origin;
+          zone_type = zone_type;
+          axfr_policy = axfr_policy;
+          sets = sets_of
+              records;
+        } }
     {
         // That the keys are in order is known of a map whose length was read.
         let _ = records.len();
@@ -83,12 +100,13 @@ impl InMemoryZoneHandler {
 
     /// The class of its records: IN.
     pub fn class(&self) -> DNSClass
-        ensures { result ≡ 1 }
+        ensures { result ≡ class_in }
     {
         DNSClass::IN
     }
 
-    /// The sets by name and type, which `accepts` takes, in the order of their keys. No two records of the zone are the same.
+    /// The sets by name and type, which `accepts` takes, in the order of their keys. No two records of the zone are the
+    /// same.
     pub fn records(&self) -> &BTreeMap<RrKey, Rc<RecordSet>>
         ensures sets { sets_of result.now ≡ self.now.sets }
         ensures zone { IsZone self.now.sets }
@@ -122,7 +140,7 @@ impl InMemoryZoneHandler {
 
     /// The records of type SOA at the origin.
     fn soa_set(&self) -> Option<&[Record]>
-        ensures { option_copied result ≡ lookup (is_key self.now.origin 6) self.now.sets }
+        ensures { option_copied result ≡ lookup (is_key self.now.origin type_soa) self.now.sets }
     {
         match &self.soa {
             Some(set) => Some(set.records()),

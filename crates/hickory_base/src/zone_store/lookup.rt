@@ -85,15 +85,16 @@ pub struct Lookup {
 
 /// A reply as a handler has it: its code, AA, and the records of its sections.
 ///
-/// Id, opcode, RD, CD and the question are the request's, and the OPT record is the server's. RA and AD are clear, and TC is set only where the
-/// reply is cut when it is written. No OPT, TSIG or SIG record may stand in the sections: such a reply cannot be read back as it was meant.
+/// Id, opcode, RD, CD and the question are the request's, and the OPT record is the server's. RA and AD are clear, and
+/// TC is set only where the reply is cut when it is written. No OPT, TSIG or SIG record may stand in the sections: such
+/// a reply cannot be read back as it was meant.
 ///
-/// A handler that is consulted afterwards may still replace it. As the answer to a further lookup, of an SOA, of servers or of a denial, only its
-/// answers count.
+/// A handler that is consulted afterwards may still replace it. As the answer to a further lookup, of an SOA, of
+/// servers or of a denial, only its answers count.
 #[derive(Debug, Drop)]
 pub struct WholeReply<'z> {
-    /// The response code. One of 16 or more needs a request with EDNS: its high eight bits go into the OPT record, and without one they are lost (RFC
-    /// 6891 section 6.1.3).
+    /// The response code. One of 16 or more needs a request with EDNS: its high eight bits go into the OPT record, and
+    /// without one they are lost (RFC 6891 section 6.1.3).
     pub response_code: ResponseCode,
     /// Whether the reply is authority's word, by AA (RFC 1035 section 4.1.1).
     pub authoritative: bool,

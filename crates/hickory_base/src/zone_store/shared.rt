@@ -1,6 +1,7 @@
 //! A share of a handler is a handler: each call goes to the value inside, but for updates, which none takes.
 
 ghost use Rattle.std.specs.Prelude.{◌≡◌, None, Err};
+ghost use Rattle.wire_messages.specs.Numbers.{code_not_imp};
 ghost use Rattle.hickory_base.specs.declared.errors.UpdateFault.TheVariants.{Code};
 
 use crate::errors::{LookupError, UpdateFault};
@@ -36,7 +37,8 @@ impl<H: ZoneHandler> ZoneHandler for Rc<H> {
 
     ghost nsec3_gives = { λ shared. H.nsec3_gives shared.value };
 
-    ghost update_gives = { λ shared request now answer context new. (answer ≡ Err (Code 4)) × (context ≡ None) × (new ≡ shared) };
+    ghost update_gives = { λ shared request now answer context new. (answer ≡ Err (Code code_not_imp)) ×
+        (context ≡ None) × (new ≡ shared) };
 
     fn zone_type(&self) -> ZoneType {
         (**self).zone_type()
@@ -137,8 +139,8 @@ impl<H: ZoneHandler> ZoneHandler for Rc<H> {
         info: Nsec3QueryInfo<'_>,
         options: LookupOptions,
     ) -> LookupControlFlow<AuthLookup<'_>> {
-        // Made anew, so that the argument keeps the lifetime that the signature gives it: lent to the handler inside as it
-        // is, it would have that of the call.
+        // Made anew, so that the argument keeps the lifetime that the signature gives it: lent to the handler inside as
+        // it is, it would have that of the call.
         let info = Nsec3QueryInfo {
             qtype: info.qtype,
             ..info

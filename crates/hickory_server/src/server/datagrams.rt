@@ -6,11 +6,11 @@ ghost use Rattle.wire_messages.specs.serialize.writing.Reply.{size_limit};
 ghost use Rattle.wire_messages.specs.declared.op.header.Header.{Header};
 ghost use Rattle.hickory_wire.specs.serialize.writing.ReplyParts.{ReplyEncoded};
 ghost use Rattle.hickory_base.specs.responses.EncodingSinks.{IsEncodingOf};
-ghost use Rattle.hickory_catalog.specs.ReplyEdns.{reply_edns};
-ghost use Rattle.hickory_server.specs.Cut.{IsCut, header_alone, id_of, without_signature};
-ghost use Rattle.hickory_server.specs.Ruling.{truncation};
-ghost use Rattle.hickory_server.specs.ServedBy.{AreSent, IsBounded};
-ghost use Rattle.hickory_server.specs.Written.{said};
+ghost use Rattle.hickory_catalog.specs.replies.ReplyEdns.{reply_edns};
+ghost use Rattle.hickory_server.specs.server.Cut.{IsCut, header_alone, id_of, without_signature};
+ghost use Rattle.hickory_server.specs.server.Ruling.{truncation};
+ghost use Rattle.hickory_server.specs.server.ServedBy.{AreSent, IsBounded};
+ghost use Rattle.hickory_server.specs.server.Written.{said};
 
 use hickory_base::message_request::MessageRequest;
 use hickory_base::server::Request;
@@ -41,7 +41,18 @@ fn without_records<'a>(
     question_count: u16,
     edns: Option<&'a Edns>,
 ) -> Contents<'a>
-    ensures { said result ≡ record { metadata = metadata; question = question.now; question_count = question_count; edns = option_copied edns.entry; answers = []; authorities = []; soa = []; additionals = []; signature = None } }
+    ensures { said result ≡ record {
+      metadata = metadata;
+      question = question.now;
+      question_count = question_count;
+      edns = option_copied
+          edns.entry;
+      answers = [];
+      authorities = [];
+      soa = [];
+      additionals = [];
+      signature = None;
+    } }
 {
     Contents {
         metadata,
@@ -108,7 +119,8 @@ fn payload(edns: Option<&Edns>) -> u16
     }
 }
 
-/// The reply to a request over UDP that says no more than that the whole is to be had over TCP: TC, its questions, and its OPT record.
+/// The reply to a request over UDP that says no more than that the whole is to be had over TCP: TC, its questions, and
+/// its OPT record.
 pub(crate) fn truncated(alloc: Global, request: &Request) -> Result<Octets, AllocError>
     ensures { IfOk result (IsEncodingOf Protocol.Udp (truncation request.now)) }
 {
@@ -123,10 +135,12 @@ pub(crate) fn truncated(alloc: Global, request: &Request) -> Result<Octets, Allo
     reply
 }
 
-/// The bytes of a reply that was read, with as many records as fit the limit. A signature over the longer one would not hold, so there is none.
+/// The bytes of a reply that was read, with as many records as fit the limit. A signature over the longer one would not
+/// hold, so there is none.
 fn shortened(alloc: Global, reply: &MessageRequest, limit: u16) -> Result<Octets, AllocError>
     requires { 12 ≤ limit }
-    ensures reply { IfOk result (λ bytes. (header : Header) × ReplyEncoded limit (without_signature reply.now) bytes header) }
+    ensures reply { IfOk result (λ bytes. (header : Header) ×
+        ReplyEncoded limit (without_signature reply.now) bytes header) }
     ensures within { IfOk result (λ bytes. length bytes ≤ limit) }
 {
     let count = reply.queries.len() as u16;
@@ -233,7 +247,8 @@ pub(crate) fn are_as_sent(request: &Request, limit: u16, replies: &[Octets]) -> 
     }
 }
 
-/// What is sent of replies to a request: over UDP each within the limit, and over a stream each as it is. It takes no memory where all are within it.
+/// What is sent of replies to a request: over UDP each within the limit, and over a stream each as it is. It takes no
+/// memory where all are within it.
 pub(crate) fn sent(
     alloc: Global,
     request: &Request,

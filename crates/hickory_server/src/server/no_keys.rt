@@ -3,12 +3,13 @@
 ghost use Rattle.std.specs.Prelude.{◌≡◌, Err, None, false};
 
 use hickory_catalog::signer::{ReplySigner, SignError};
-use hickory_store::sqlite::{Verifier, VerifyError};
+use hickory_store::updates::{Verifier, VerifyError};
 use hickory_wire::{Boxed, Name, Record, TSIG, TSigResponseContext};
 use std::alloc::Global;
 use std::ops::Range;
 
-/// The keys of a server that has none: it knows no key, finds no signature good, and signs nothing (RFC 8945 section 5.2.1).
+/// The keys of a server that has none: it knows no key, finds no signature good, and signs nothing (RFC 8945 section
+/// 5.2.1).
 #[derive(Drop)]
 pub struct NoKeys;
 

@@ -3,7 +3,7 @@
 ghost use Rattle.std.specs.Prelude.{◌≡◌, ◌≢◌, ◌↔◌, ℕ, Contains, IsTrue, MatchOption};
 ghost use Rattle.wire_messages.specs.declared.op.query.Query.{Query};
 ghost use Rattle.access_control.specs.Access.{Network};
-ghost use Rattle.hickory_server.specs.Ruling.{IsIncremental, IsOfServedClass, IsQuery, IsResponse, IsRuling, IsTransfer, udp_limit};
+ghost use Rattle.hickory_server.specs.server.Ruling.{IsIncremental, IsOfServedClass, IsQuery, IsResponse, IsRuling, IsTransfer, udp_limit};
 
 use hickory_base::access::AccessControl;
 use hickory_base::message_request::MessageRequest;
@@ -49,7 +49,8 @@ pub(crate) fn is_response(bytes: &[u8]) -> bool
 // speed: served, an address
 #[inline(always)]
 fn question_of(message: &MessageRequest) -> Option<&LowerQuery>
-    ensures { MatchOption result ((query : Query) → ¬ (IsQuery message.now query)) (λ query. IsQuery message.now query.now) }
+    ensures { MatchOption result ((query : Query) → ¬ (IsQuery message.now query))
+        (λ query. IsQuery message.now query.now) }
 {
     if message.version() != 0 || message.metadata.message_type != MessageType::Query {
         return None;
@@ -77,8 +78,8 @@ fn is_transfer(query: &LowerQuery) -> bool
     query.query_type() == RecordType::AXFR || query.query_type() == RecordType::IXFR
 }
 
-/// What becomes of a question for a transfer whose asker may have it: what changed in a zone is asked of its handlers over any transport, and the whole
-/// zone over streams alone.
+/// What becomes of a question for a transfer whose asker may have it: what changed in a zone is asked of its handlers
+/// over any transport, and the whole zone over streams alone.
 fn ruling_of_transfer(protocol: Protocol, query: &LowerQuery) -> Ruling
     ensures incremental { IsIncremental query.now → result ≡ Ruling.Transfer }
     ensures datagram { ¬ (IsIncremental query.now) → protocol ≡ Protocol.Udp → result ≡ Ruling.Truncate }
@@ -94,8 +95,8 @@ fn ruling_of_transfer(protocol: Protocol, query: &LowerQuery) -> Ruling
 }
 
 impl Rules {
-    /// Everybody may use the server and have transfers, and a reply over UDP has at most 1,232 bytes: what IPv6 carries in one piece
-    /// everywhere, of which 48 bytes are headers (RFC 8200 sections 3 and 5, RFC 768).
+    /// Everybody may use the server and have transfers, and a reply over UDP has at most 1,232 bytes: what IPv6 carries
+    /// in one piece everywhere, of which 48 bytes are headers (RFC 8200 sections 3 and 5, RFC 768).
     pub fn new(alloc: Global) -> Rules
         ensures deny { (network : Network) → ¬ (Contains result.access.deny network) }
         ensures allow { (network : Network) → ¬ (Contains result.access.allow network) }

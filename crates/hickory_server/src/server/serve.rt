@@ -4,12 +4,12 @@ ghost use Rattle.std.specs.Prelude.{◌≡◌, List, [], IfOk, IfErr, OnOk};
 ghost use Rattle.std.specs.List.{AllZip};
 ghost use Rattle.wire_messages.specs.serialize.writing.Reply.{Reply};
 ghost use Rattle.hickory_base.specs.responses.EncodingSinks.{EncodedReplies, IsEncodingOf};
-ghost use Rattle.hickory_catalog.specs.Requests.{RequestAnswered};
-ghost use Rattle.hickory_catalog.specs.Server.{server_of};
-ghost use Rattle.hickory_catalog.specs.Zones.{AreInOrder};
-ghost use Rattle.hickory_server.specs.DecodedOutcomes.{AnswersReadBack, OneQuestionHasRoom, StepsReadBack};
-ghost use Rattle.hickory_server.specs.Isolation.{BesideIsARun, EachRunIsBeside, EachRunIsIsolated, OneWayBeside, StepIsAlone, StepLeavesOthers, ZonesAreIsolated};
-ghost use Rattle.hickory_server.specs.Serving.{LeavesRequest, LeavesUnserved, Run, RunFailed, Step};
+ghost use Rattle.hickory_catalog.specs.requests.Requests.{RequestAnswered};
+ghost use Rattle.hickory_catalog.specs.requests.Server.{server_of};
+ghost use Rattle.hickory_catalog.specs.zones.Zones.{AreInOrder};
+ghost use Rattle.hickory_server.specs.server.DecodedOutcomes.{AnswersReadBack, OneQuestionHasRoom, StepsReadBack};
+ghost use Rattle.hickory_server.specs.server.Isolation.{BesideIsARun, EachRunIsBeside, EachRunIsIsolated, OneWayBeside, StepIsAlone, StepLeavesOthers, ZonesAreIsolated};
+ghost use Rattle.hickory_server.specs.server.Serving.{LeavesRequest, LeavesUnserved, Run, RunFailed, Step};
 
 use hickory_base::access::AccessControl;
 pub use hickory_base::encoding_sink::EncodingSink;
@@ -62,8 +62,8 @@ pub enum ServeError {
 
 /// Hands the replies to a request to a sink that has none.
 ///
-/// `Memory` says that the sink was handed none, and `MemoryAfterHandling` that it failed at one, or that an update was made and it was
-/// handed none.
+/// `Memory` says that the sink was handed none, and `MemoryAfterHandling` that it failed at one, or that an update was
+/// made and it was handed none.
 fn hand_over<S: ReplySigner, H: ZoneHandler>(
     alloc: Global,
     catalog: &mut Catalog<S, H>,
@@ -74,10 +74,12 @@ fn hand_over<S: ReplySigner, H: ZoneHandler>(
     requires { sink.old ≡ record { protocol = request.now.protocol; replies = []; failures = 0 } }
     ensures others { catalog.new ≡ record catalog.old { zones = catalog.new.zones } }
     ensures ok { OnOk result ((replies : List Reply) ×
-        RequestAnswered (server_of H.ZoneHandler S.signature_for catalog.old) request.now now replies catalog.new.zones ×
+        RequestAnswered (server_of H.ZoneHandler S.signature_for catalog.old) request.now now replies
+        catalog.new.zones ×
         AllZip (IsEncodingOf request.now.protocol) replies sink.new.replies) }
     ensures err { IfErr result (λ e.
-        LeavesRequest (server_of H.ZoneHandler S.signature_for catalog.old) request.now now sink.new e catalog.new.zones) }
+        LeavesRequest (server_of H.ZoneHandler S.signature_for catalog.old) request.now now sink.new e
+        catalog.new.zones) }
 {
     match catalog.handle_request(alloc, request, now, sink) {
         Ok(_) => {}
@@ -102,7 +104,8 @@ pub(crate) fn replies_to<S: ReplySigner, H: ZoneHandler>(
 ) -> Result<Items<Octets>, ServeError>
     ensures others { catalog.new ≡ record catalog.old { zones = catalog.new.zones } }
     ensures ok { IfOk result (λ encoded. (replies : List Reply) ×
-        RequestAnswered (server_of H.ZoneHandler S.signature_for catalog.old) request.now now replies catalog.new.zones ×
+        RequestAnswered (server_of H.ZoneHandler S.signature_for catalog.old) request.now now replies
+        catalog.new.zones ×
         AllZip (IsEncodingOf request.now.protocol) replies encoded) }
     ensures err { IfErr result (λ e. (sink : EncodedReplies) ×
         LeavesRequest (server_of H.ZoneHandler S.signature_for catalog.old) request.now now sink e catalog.new.zones) }
@@ -114,8 +117,9 @@ pub(crate) fn replies_to<S: ReplySigner, H: ZoneHandler>(
 
 /// Serves one message: what becomes of it. Only an update changes the catalog.
 ///
-/// A message is denied where its address may not use the server, and else unreadable where its bytes begin with no message; neither changes
-/// anything. `Memory` says that the catalog is as before, and `MemoryAfterHandling` that the message was handled and its replies are missing.
+/// A message is denied where its address may not use the server, and else unreadable where its bytes begin with no
+/// message; neither changes anything. `Memory` says that the catalog is as before, and `MemoryAfterHandling` that the
+/// message was handled and its replies are missing.
 pub fn serve<S: ReplySigner, H: ZoneHandler>(
     alloc: Global,
     access: &AccessControl,
@@ -123,8 +127,10 @@ pub fn serve<S: ReplySigner, H: ZoneHandler>(
     message: Incoming,
 ) -> Result<Outcome, ServeError>
     ensures others { catalog.new ≡ record catalog.old { zones = catalog.new.zones } }
-    ensures ok { IfOk result (λ outcome. Step access.now (server_of H.ZoneHandler S.signature_for catalog.old) message outcome catalog.new.zones) }
-    ensures err { IfErr result (λ e. LeavesUnserved access.now (server_of H.ZoneHandler S.signature_for catalog.old) message e catalog.new.zones) }
+    ensures ok { IfOk result (λ outcome. Step access.now (server_of H.ZoneHandler S.signature_for catalog.old) message
+        outcome catalog.new.zones) }
+    ensures err { IfErr result (λ e. LeavesUnserved access.now (server_of H.ZoneHandler S.signature_for catalog.old)
+        message e catalog.new.zones) }
 {
     if !access.allow(message.src.ip()) {
         return Ok(Outcome::Denied);
@@ -151,8 +157,9 @@ pub fn serve<S: ReplySigner, H: ZoneHandler>(
 
 /// Serves messages, one after the other, each over the catalog as those before it left it: what becomes of each.
 ///
-/// Where memory is refused for a message, those before it have their outcomes, those behind it are not looked at, and the error says whether the
-/// catalog is as before that message or as after it. The place of an outcome is made before its message is handled.
+/// Where memory is refused for a message, those before it have their outcomes, those behind it are not looked at, and
+/// the error says whether the catalog is as before that message or as after it. The place of an outcome is made before
+/// its message is handled.
 pub fn serve_all<S: ReplySigner, H: ZoneHandler>(
     alloc: Global,
     access: &AccessControl,
@@ -162,8 +169,11 @@ pub fn serve_all<S: ReplySigner, H: ZoneHandler>(
     ensures others { catalog.new ≡ record catalog.old { zones = catalog.new.zones } }
     // As the laws of isolation ask.
     ensures ordered { AreInOrder catalog.old.zones }
-    ensures ok { IfOk result (λ outcomes. Run access.now (server_of H.ZoneHandler S.signature_for catalog.old) catalog.old.zones messages.items outcomes.items catalog.new.zones) }
-    ensures err { IfErr result (λ failed. RunFailed access.now (server_of H.ZoneHandler S.signature_for catalog.old) messages.items failed.0.items failed.1 catalog.new.zones) }
+    ensures ok { IfOk result (λ outcomes.
+        Run access.now (server_of H.ZoneHandler S.signature_for catalog.old) catalog.old.zones messages.items
+        outcomes.items catalog.new.zones) }
+    ensures err { IfErr result (λ failed. RunFailed access.now (server_of H.ZoneHandler S.signature_for catalog.old)
+        messages.items failed.0.items failed.1 catalog.new.zones) }
 {
     catalog.zones_in_order();
     let mut outcomes = Vec::new(alloc);
@@ -179,12 +189,13 @@ pub fn serve_all<S: ReplySigner, H: ZoneHandler>(
     Ok(outcomes)
 }
 
-/// What a client reads of the replies to a request: of the bytes of each, over the transport that the request came over, the header that tells what was
-/// left out, the questions of the request, and the records that were written, each as it was meant.
+/// What a client reads of the replies to a request: of the bytes of each, over the transport that the request came
+/// over, the header that tells what was left out, the questions of the request, and the records that were written, each
+/// as it was meant.
 ///
-/// The premises: no name of the questions leads into the header or runs on behind the last of them, which is so of all that are sent in full
-/// (`request_laws::repeatable_questions`); the transport's limit has room for header and questions, as it has
-/// for one question over any transport; each record of the reply reads back as
+/// The premises: no name of the questions leads into the header or runs on behind the last of them, which is so of all
+/// that are sent in full (`request_laws::repeatable_questions`); the transport's limit has room for header and
+/// questions, as it has for one question over any transport; each record of the reply reads back as
 /// itself (`record_laws::reading_back` says which do), and none but its own is an OPT, TSIG or SIG.
 pub fn replies_read_back<S: ReplySigner, H: ZoneHandler>()
     ensures answers { AnswersReadBack H.ZoneHandler S.signature_for }
@@ -196,9 +207,10 @@ pub fn replies_read_back<S: ReplySigner, H: ZoneHandler>()
     repeatable_questions();
 }
 
-/// Each zone of a server is served as if it were the only one: what becomes of the messages to it, and the zone after them, is what becomes of them
-/// where they come alone to a server of that zone alone, with the same identifier and signer. Which messages of a run these are
-/// is decided, and in one way. So it is of one message (`step`), and one that is not to a zone leaves the zone as it was (`stays`).
+/// Each zone of a server is served as if it were the only one: what becomes of the messages to it, and the zone after
+/// them, is what becomes of them where they come alone to a server of that zone alone, with the same identifier and
+/// signer. Which messages of a run these are is decided, and in one way. So it is of one message (`step`), and one that
+/// is not to a zone leaves the zone as it was (`stays`).
 pub fn zones_are_isolated<S: ReplySigner, H: ZoneHandler>()
     ensures step { StepIsAlone H.ZoneHandler S.signature_for }
     ensures stays { StepLeavesOthers H.ZoneHandler S.signature_for }

@@ -7,13 +7,13 @@ ghost use Rattle.std.specs.Option.{option_copied};
 ghost use Rattle.wire_messages.specs.declared.op.query.Query.{Query};
 ghost use Rattle.wire_messages.specs.serialize.writing.Reply.{Reply};
 ghost use Rattle.hickory_base.specs.responses.EncodingSinks.{EncodedReplies, IsEncodingOf};
-ghost use Rattle.hickory_catalog.specs.Replies.{error_reply};
-ghost use Rattle.hickory_catalog.specs.ReplyEdns.{reply_edns};
-ghost use Rattle.hickory_catalog.specs.Server.{server_of};
-ghost use Rattle.hickory_catalog.specs.WholeTransfers.{TransferReplies};
-ghost use Rattle.hickory_server.specs.Ruling.{IsQuery, IsRuling, refusal, udp_limit};
-ghost use Rattle.hickory_server.specs.ServedBy.{AreSent, BytesServed, LeavesBytes, RequestServed};
-ghost use Rattle.hickory_server.specs.Serving.{LeavesRequest};
+ghost use Rattle.hickory_catalog.specs.replies.Replies.{error_reply};
+ghost use Rattle.hickory_catalog.specs.replies.ReplyEdns.{reply_edns};
+ghost use Rattle.hickory_catalog.specs.requests.Server.{server_of};
+ghost use Rattle.hickory_catalog.specs.transfers.WholeTransfers.{TransferReplies};
+ghost use Rattle.hickory_server.specs.server.Ruling.{IsQuery, IsRuling, refusal, udp_limit};
+ghost use Rattle.hickory_server.specs.server.ServedBy.{AreSent, BytesServed, LeavesBytes, RequestServed, arrival};
+ghost use Rattle.hickory_server.specs.server.Serving.{LeavesRequest};
 
 use crate::server::answer::Answer;
 use crate::server::datagrams::{are_as_sent, sent, truncated};
@@ -55,7 +55,8 @@ fn refused(
 ) -> Result<Items<Octets>, AllocError>
     requires { (query : Query) × IsQuery request.now.message query }
     ensures { IfOk result (λ encoded. (bytes : List ℕ) × (encoded ≡ bytes ∷ []) ×
-        IsEncodingOf request.now.protocol (error_reply request.now.message (reply_edns (option_copied nsid.entry) request.now.message.edns) 5) bytes) }
+        IsEncodingOf request.now.protocol
+        (error_reply request.now.message (reply_edns (option_copied nsid.entry) request.now.message.edns) 5) bytes) }
 {
     let mut nothing: Catalog<NoKeys, InMemoryZoneHandler> = Catalog::new(alloc, NoKeys);
     nothing.set_nsid(copied(alloc, nsid)?);
@@ -76,7 +77,8 @@ fn refuse<S: ReplySigner, H: ZoneHandler>(
 ) -> Result<Items<Octets>, AllocError>
     requires { IsRuling rules.now request.now Ruling.Refuse }
     ensures { IfOk result (λ sent. (encoded : List (List ℕ)) ×
-        RequestServed rules.now (server_of H.ZoneHandler S.signature_for catalog.now) request.now now encoded catalog.now.zones ×
+        RequestServed rules.now (server_of H.ZoneHandler S.signature_for catalog.now) request.now now encoded
+        catalog.now.zones ×
         AreSent request.now.protocol (udp_limit rules.now) encoded sent) }
 {
     let replies = refused(alloc, catalog.nsid(), request, now)?;
@@ -94,7 +96,8 @@ fn truncate<S: ReplySigner, H: ZoneHandler>(
 ) -> Result<Items<Octets>, AllocError>
     requires { IsRuling rules.now request.now Ruling.Truncate }
     ensures { IfOk result (λ sent. (encoded : List (List ℕ)) ×
-        RequestServed rules.now (server_of H.ZoneHandler S.signature_for catalog.now) request.now now encoded catalog.now.zones ×
+        RequestServed rules.now (server_of H.ZoneHandler S.signature_for catalog.now) request.now now encoded
+        catalog.now.zones ×
         AreSent request.now.protocol (udp_limit rules.now) encoded sent) }
 {
     let mut replies = Items::new(alloc);
@@ -112,7 +115,8 @@ fn hand_transfer_over<S: ReplySigner, H: ZoneHandler>(
 ) -> Result<(), AllocError>
     requires { sink.old ≡ record { protocol = request.now.protocol; replies = []; failures = 0 } }
     ensures { OnOk result ((replies : List Reply) ×
-        TransferReplies (server_of H.ZoneHandler S.signature_for catalog.now) request.now (reply_edns catalog.now.nsid request.now.message.edns) now replies ×
+        TransferReplies (server_of H.ZoneHandler S.signature_for catalog.now) request.now
+        (reply_edns catalog.now.nsid request.now.message.edns) now replies ×
         AllZip (IsEncodingOf request.now.protocol) replies sink.new.replies) }
 {
     match catalog.transfer(alloc, request, now, sink) {
@@ -135,7 +139,8 @@ fn transfer_replies<S: ReplySigner, H: ZoneHandler>(
     now: u64,
 ) -> Result<Items<Octets>, AllocError>
     ensures { IfOk result (λ encoded. (replies : List Reply) ×
-        TransferReplies (server_of H.ZoneHandler S.signature_for catalog.now) request.now (reply_edns catalog.now.nsid request.now.message.edns) now replies ×
+        TransferReplies (server_of H.ZoneHandler S.signature_for catalog.now) request.now
+        (reply_edns catalog.now.nsid request.now.message.edns) now replies ×
         AllZip (IsEncodingOf request.now.protocol) replies encoded) }
 {
     let mut sink = EncodingSink::new(alloc, request.protocol());
@@ -143,7 +148,8 @@ fn transfer_replies<S: ReplySigner, H: ZoneHandler>(
     Ok(sink.into_replies())
 }
 
-/// What is sent to a request that is answered by the whole zone. It changes nothing, so want of memory leaves nothing handled.
+/// What is sent to a request that is answered by the whole zone. It changes nothing, so want of memory leaves nothing
+/// handled.
 #[inline(never)]
 fn transferred<S: ReplySigner, H: ZoneHandler>(
     alloc: Global,
@@ -154,7 +160,8 @@ fn transferred<S: ReplySigner, H: ZoneHandler>(
 ) -> Result<Items<Octets>, AllocError>
     requires { IsRuling rules.now request.now Ruling.Transfer }
     ensures { IfOk result (λ sent. (encoded : List (List ℕ)) ×
-        RequestServed rules.now (server_of H.ZoneHandler S.signature_for catalog.now) request.now now encoded catalog.now.zones ×
+        RequestServed rules.now (server_of H.ZoneHandler S.signature_for catalog.now) request.now now encoded
+        catalog.now.zones ×
         AreSent request.now.protocol (udp_limit rules.now) encoded sent) }
 {
     let replies = transfer_replies(alloc, catalog, request, now)?;
@@ -185,7 +192,8 @@ fn passed<S: ReplySigner, H: ZoneHandler>(
     requires { IsRuling rules.now request.now Ruling.Pass }
     ensures others { catalog.new ≡ record catalog.old { zones = catalog.new.zones } }
     ensures ok { IfOk result (λ sent. (encoded : List (List ℕ)) ×
-        RequestServed rules.now (server_of H.ZoneHandler S.signature_for catalog.old) request.now now encoded catalog.new.zones ×
+        RequestServed rules.now (server_of H.ZoneHandler S.signature_for catalog.old) request.now now encoded
+        catalog.new.zones ×
         AreSent request.now.protocol (udp_limit rules.now) encoded sent) }
     ensures err { IfErr result (λ e. (sink : EncodedReplies) ×
         LeavesRequest (server_of H.ZoneHandler S.signature_for catalog.old) request.now now sink e catalog.new.zones) }
@@ -213,7 +221,8 @@ fn ruled<S: ReplySigner, H: ZoneHandler>(
 ) -> Result<Items<Octets>, ServeError>
     ensures others { catalog.new ≡ record catalog.old { zones = catalog.new.zones } }
     ensures ok { IfOk result (λ sent. (encoded : List (List ℕ)) ×
-        RequestServed rules.now (server_of H.ZoneHandler S.signature_for catalog.old) request.now now encoded catalog.new.zones ×
+        RequestServed rules.now (server_of H.ZoneHandler S.signature_for catalog.old) request.now now encoded
+        catalog.new.zones ×
         AreSent request.now.protocol (udp_limit rules.now) encoded sent) }
     ensures err { IfErr result (λ e. (sink : EncodedReplies) ×
         LeavesRequest (server_of H.ZoneHandler S.signature_for catalog.old) request.now now sink e catalog.new.zones) }
@@ -239,7 +248,8 @@ fn answered<S: ReplySigner, H: ZoneHandler>(
 ) -> Result<Items<Octets>, ServeError>
     ensures others { catalog.new ≡ record catalog.old { zones = catalog.new.zones } }
     ensures ok { IfOk result (λ sent. (encoded : List (List ℕ)) ×
-        RequestServed rules.now (server_of H.ZoneHandler S.signature_for catalog.old) request.now now encoded catalog.new.zones ×
+        RequestServed rules.now (server_of H.ZoneHandler S.signature_for catalog.old) request.now now encoded
+        catalog.new.zones ×
         AreSent request.now.protocol (udp_limit rules.now) encoded sent) }
     ensures err { IfErr result (λ e. (sink : EncodedReplies) ×
         LeavesRequest (server_of H.ZoneHandler S.signature_for catalog.old) request.now now sink e catalog.new.zones) }
@@ -260,7 +270,8 @@ fn empty_request(alloc: Global) -> Result<Request, AllocError> {
     }
 }
 
-/// A server: what it holds messages to, what it serves, and the request that it read last, in whose place it reads the next.
+/// A server: what it holds messages to, what it serves, and the request that it read last, in whose place it reads the
+/// next.
 #[derive(Drop)]
 pub struct Server<S: ReplySigner, H: ZoneHandler> {
     /// What it holds every message to.
@@ -287,16 +298,20 @@ impl<S: ReplySigner, H: ZoneHandler> Server<S, H> {
         })
     }
 
-    /// Serves one message, which came from this address over this transport, at this moment in seconds since 1970: what becomes of it.
-    /// Only an update changes the catalog.
+    /// Serves one message, which came from this address over this transport, at this moment in seconds since 1970: what
+    /// becomes of it. Only an update changes the catalog.
     ///
-    /// A message whose address may not use the server is denied; one that is shorter than a header, or begins with no message, is
-    /// unreadable; one with QR set is a response. None of these has a reply. A query of another class than IN and ANY is answered
-    /// Refused, and so is one for a transfer (AXFR, IXFR) from an address that may have none; a whole zone (AXFR) that is asked for over UDP is answered
-    /// with TC and no records (RFC 5936 section 4.2), and a query for what changed in a zone (IXFR) by what its handlers give as a transfer (RFC 1995 sections 2
-    /// and 4). Over UDP no reply is longer than the client takes, nor than the limit of the rules.
+    /// A message whose address may not use the server is denied; one that is shorter than a header, or begins with no
+    /// message, is unreadable; one with QR set is a response. None of these has a reply. A query of another class than
+    /// IN and ANY is answered Refused, and so is one for a transfer (AXFR, IXFR) from an address that may have none; a
+    /// whole zone (AXFR) that is asked for over UDP is answered with TC and no records (RFC 5936 section 4.2), and a
+    /// query for what changed in a zone (IXFR) by what its handlers give as a transfer (RFC 1995 sections 2 and 4).
+    /// Over UDP no reply is longer than the client takes, nor than the limit of the rules.
     ///
-    /// `Memory` says that the catalog is as before, and `MemoryAfterHandling` that the message was handled and its replies are missing.
+    /// # Errors
+    ///
+    /// `Memory` says that the catalog is as before, and `MemoryAfterHandling` that the message was handled and its
+    /// replies are missing.
     #[inline(never)]
     pub fn serve(
         &mut self,
@@ -308,14 +323,18 @@ impl<S: ReplySigner, H: ZoneHandler> Server<S, H> {
     ) -> Result<Answer, ServeError>
         ensures rules { self.new.rules ≡ self.old.rules }
         ensures others { self.new.catalog ≡ record self.old.catalog { zones = self.new.catalog.zones } }
-        ensures ok { IfOk result (λ answer. BytesServed self.old.rules (server_of H.ZoneHandler S.signature_for self.old.catalog) bytes.now src protocol now answer self.new.catalog.zones) }
-        ensures err { IfErr result (λ e. LeavesBytes self.old.rules (server_of H.ZoneHandler S.signature_for self.old.catalog) bytes.now src protocol now e self.new.catalog.zones) }
+        ensures ok { IfOk result (λ answer.
+            BytesServed self.old.rules (server_of H.ZoneHandler S.signature_for self.old.catalog)
+            (arrival bytes.now src protocol now) answer self.new.catalog.zones) }
+        ensures err { IfErr result (λ e.
+            LeavesBytes self.old.rules (server_of H.ZoneHandler S.signature_for self.old.catalog)
+            (arrival bytes.now src protocol now) e self.new.catalog.zones) }
     {
         self.serve_reusing(alloc, bytes, src, protocol, now, Items::new(alloc))
     }
 
-    /// Serves one message as `serve` does. The memory of these replies, as those to an earlier message, is used again for
-    /// those that the zones give to this one.
+    /// Serves one message as `serve` does. The memory of these replies, as those to an earlier message, is used again
+    /// for those that the zones give to this one.
     // speed: served, an address
     #[inline(always)]
     pub fn serve_reusing(
@@ -331,10 +350,10 @@ impl<S: ReplySigner, H: ZoneHandler> Server<S, H> {
         ensures others { self.new.catalog ≡ record self.old.catalog { zones = self.new.catalog.zones } }
         ensures ok { IfOk result (λ answer. BytesServed self.old.rules
             (server_of H.ZoneHandler S.signature_for self.old.catalog)
-            bytes.now src protocol now answer self.new.catalog.zones) }
+            (arrival bytes.now src protocol now) answer self.new.catalog.zones) }
         ensures err { IfErr result (λ e. LeavesBytes self.old.rules
             (server_of H.ZoneHandler S.signature_for self.old.catalog)
-            bytes.now src protocol now e self.new.catalog.zones) }
+            (arrival bytes.now src protocol now) e self.new.catalog.zones) }
     {
         if !self.rules.access.allow(src.ip()) {
             return Ok(Answer::Denied);

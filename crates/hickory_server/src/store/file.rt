@@ -4,9 +4,9 @@ ghost use Rattle.std.specs.Prelude.{◌≡◌, All, IfErr, IfOk, List};
 ghost use Rattle.wire_names.specs.rr.domain.DomainName.{DomainName};
 ghost use Rattle.wire_messages.specs.declared.rr.rdata.RData.{RData as RecordData};
 ghost use Rattle.wire_messages.specs.declared.rr.record.Record.{Record};
-ghost use Rattle.hickory_store.specs.RecordZones.{IsRecordsFault};
+ghost use Rattle.hickory_store.specs.file.RecordZones.{IsRecordsFault};
 ghost use Rattle.zone_text.specs.ZoneFiles.{IsZoneRecord};
-ghost use Rattle.hickory_server.specs.ZoneOfText.{IsTextFault, IsZoneOfText, error_of_records, error_of_text};
+ghost use Rattle.hickory_server.specs.store.ZoneOfText.{IsTextFault, IsZoneOfText, error_of_records, error_of_text};
 
 use hickory_base::zone_store::{AxfrPolicy, InMemoryZoneHandler, ZoneType};
 pub use hickory_store::file::{RecordFault, RecordsError, zone_of_records};
@@ -43,7 +43,8 @@ fn text_fault(e: ZoneFileError) -> ZoneError
 /// The fault of a text whose records make no zone.
 fn records_fault(e: RecordsError) -> ZoneError
     ensures value { result ≡ error_of_records e }
-    ensures told { (apex : DomainName) (records : List (Record RecordData)) → All IsZoneRecord records → IsRecordsFault apex records e → IsTextFault apex result }
+    ensures told { (apex : DomainName) (records : List (Record RecordData)) → All IsZoneRecord records →
+        IsRecordsFault apex records e → IsTextFault apex result }
 {
     match e {
         RecordsError::Memory => ZoneError::Memory,
@@ -51,10 +52,11 @@ fn records_fault(e: RecordsError) -> ZoneError
     }
 }
 
-/// The zone of this apex that a text has, as [`read_zone_file`] reads it and [`zone_of_records`] makes it of the records.
+/// The zone of this apex that a text has, as [`read_zone_file`] reads it and [`zone_of_records`] makes it of the
+/// records.
 ///
-/// The first entry that is wrong is told with line, column and field. Where all can be read, the first record is told that is wrong in the zone, by its
-/// number, and then whether there is no SOA record at the apex, or more than one.
+/// The first entry that is wrong is told with line, column and field. Where all can be read, the first record is told
+/// that is wrong in the zone, by its number, and then whether there is no SOA record at the apex, or more than one.
 pub fn read_zone(
     alloc: Global,
     text: &str,

@@ -1,4 +1,7 @@
-//! Zones that take dynamic updates, why they make one not, the laws of what updates leave, and worked examples of the definitions.
+//! Zones that take dynamic updates, why they make one not, the laws of what updates leave, and worked examples of the
+//! definitions.
 
 pub use hickory_base::errors::UpdateFault;
-pub use hickory_store::sqlite::{SqliteZoneHandler, Verifier, VerifyError, laws, worked};
+pub use hickory_store::updates::{
+    UpdatableZoneHandler as SqliteZoneHandler, Verifier, VerifyError, laws, worked,
+};

@@ -6,7 +6,7 @@ ghost use Rattle.hickory_base.specs.declared.errors.UpdateFault.TheVariants as u
 ghost use Rattle.hickory_base.specs.declared.zone_store.handler.AxfrPolicy.TheVariants as axfr_policy;
 ghost use Rattle.hickory_base.specs.declared.zone_store.handler.ZoneType.TheVariants as zone_type;
 ghost use Rattle.hickory_base.specs.declared.zone_store.lookup.LookupControlFlow.TheVariants.{Continue, Skip};
-ghost use Rattle.hickory_store.specs.BlockAnswers.{Answers, Consulted, Searched, IsBlockedBy, block_record, block_records, found_for, sinkhole_data};
+ghost use Rattle.hickory_store.specs.blocklist.BlockAnswers.{Answers, Consulted, Searched, IsBlockedBy, block_record, block_records, found_for, sinkhole_data};
 
 use crate::blocklist::config::{BlocklistConfig, BlocklistConsultAction};
 use crate::blocklist::handler::BlocklistZoneHandler;
@@ -116,7 +116,9 @@ impl BlocklistZoneHandler {
         name: &LowerName,
         record_type: RecordType,
     ) -> Option<Result<AuthLookup<'z>, LookupError>>
-        ensures blocked { IfSome result (λ found. (IsBlockedBy self.now name.now × (found ≡ Ok (found_for self.now.config name.now record_type))) ⊎ (found ≡ Err lookup_error.Memory)) }
+        ensures blocked { IfSome result
+            (λ found. (IsBlockedBy self.now name.now × (found ≡ Ok (found_for self.now.config name.now record_type))) ⊎
+            (found ≡ Err lookup_error.Memory)) }
         ensures free { IfNone result (¬ (IsBlockedBy self.now name.now)) }
     {
         match self.is_blocked(name) {
@@ -158,7 +160,8 @@ impl ZoneHandler for BlocklistZoneHandler {
 
     ghost search_gives = { λ list request _ answer context. Searched list request answer × (context ≡ None) };
 
-    ghost consult_gives = { λ list name record_type _ _ last answer context. Consulted list name record_type last answer × (context ≡ None) };
+    ghost consult_gives = { λ list name record_type _ _ last answer context.
+        Consulted list name record_type last answer × (context ≡ None) };
 
     ghost transfer_gives = { λ _ _ _ _ answer. answer ≡ None };
 
@@ -166,7 +169,8 @@ impl ZoneHandler for BlocklistZoneHandler {
 
     ghost nsec3_gives = { λ _ _ _ answer. answer ≡ Continue (Err lookup_error.Io) };
 
-    ghost update_gives = { λ list _ _ answer context new. (answer ≡ Err (update_fault.Code 4)) × (context ≡ None) × (new ≡ list) };
+    ghost update_gives = { λ list _ _ answer context new. (answer ≡ Err (update_fault.Code 4)) × (context ≡ None) ×
+        (new ≡ list) };
 
     fn zone_type(&self) -> ZoneType {
         ZoneType::External

@@ -1,7 +1,7 @@
 //! Laws of the comparisons of settings, each the contract of a function with nothing to do.
 
 ghost use Rattle.std.specs.Prelude.{◌≡◌, ◌↔◌, IsTrue};
-ghost use Rattle.hickory_store.specs.ConfigSameness.{SameConfig};
+ghost use Rattle.hickory_store.specs.blocklist.ConfigSameness.{SameConfig};
 ghost use Rattle.hickory_store.specs.declared.blocklist.config.BlocklistConfig.{BlocklistConfig as Settings};
 ghost use Rattle.hickory_store.specs.declared.blocklist.config.BlocklistConsultAction.{BlocklistConsultAction as Action};
 

@@ -3,8 +3,8 @@
 ghost use Rattle.std.specs.Prelude.{◌≡◌, ◌≤◌, ◌↔◌, [], ◌∷◌, length, true, IfOk, OnOk, OnErr, IsTrue};
 ghost use Rattle.std.specs.Str.Lines.{lines};
 ghost use Rattle.wire_names.specs.rr.domain.NameOrder.{is_wildcard};
-ghost use Rattle.hickory_store.specs.Entries.{HasEntry, IsEntry, AreEntries, AddsEntry, AddsLines, AddsFirstLines};
-ghost use Rattle.hickory_store.specs.Blocked.{IsUnderWildcard};
+ghost use Rattle.hickory_store.specs.blocklist.Entries.{HasEntry, IsEntry, AreEntries, AddsEntry, AddsLines, AddsFirstLines};
+ghost use Rattle.hickory_store.specs.blocklist.Blocked.{IsUnderWildcard};
 
 use crate::blocklist::lines::{Listed, read_line};
 use hickory_wire::LowerName;
@@ -23,7 +23,7 @@ pub(crate) struct Entries {
 impl Model for Entries {
     ghost use Rattle.std.specs.Prelude.{List};
     ghost use Rattle.wire_names.specs.rr.domain.DomainName.{DomainName};
-    ghost use Rattle.hickory_store.specs.Entries.{AreKept};
+    ghost use Rattle.hickory_store.specs.blocklist.Entries.{AreKept};
 
     ghost Value = { List DomainName };
 

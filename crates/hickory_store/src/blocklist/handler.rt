@@ -2,9 +2,9 @@
 
 ghost use Rattle.std.specs.Prelude.{◌≡◌, [], length, IfOk};
 ghost use Rattle.wire_names.specs.rr.domain.NameOrder.{lower_name};
-ghost use Rattle.hickory_store.specs.Adding.{Adds};
-ghost use Rattle.hickory_store.specs.Readers.{CountsIo};
-ghost use Rattle.hickory_store.specs.Entries.{AreEntries};
+ghost use Rattle.hickory_store.specs.blocklist.AddedLists.{Adds};
+ghost use Rattle.hickory_store.specs.blocklist.Readers.{CountsIo};
+ghost use Rattle.hickory_store.specs.blocklist.Entries.{AreEntries};
 ghost use Rattle.hickory_store.specs.declared.blocklist.handler.AddError.TheVariants as add_error;
 
 use crate::blocklist::config::BlocklistConfig;
@@ -50,9 +50,10 @@ impl From<AllocError> for AddError {
 ///
 /// It is asked before the handlers that would resolve the names, or it is consulted about what they answered.
 ///
-/// Only names that are fully qualified are blocked, as all are that a message holds: a name without its final dot never is, whatever
-/// the lists have. [`add`](BlocklistZoneHandler::add) tells which lines of a list are names, and which are skipped without a word;
-/// [`entry_count`](BlocklistZoneHandler::entry_count) then tells whether as many names came as were expected.
+/// Only names that are fully qualified are blocked, as all are that a message holds: a name without its final dot never
+/// is, whatever the lists have. [`add`](BlocklistZoneHandler::add) tells which lines of a list are names, and which are
+/// skipped without a word; [`entry_count`](BlocklistZoneHandler::entry_count) then tells whether as many names came as
+/// were expected.
 #[derive(Drop)]
 pub struct BlocklistZoneHandler {
     // What the entries are made with.
@@ -63,7 +64,7 @@ pub struct BlocklistZoneHandler {
 }
 
 impl Model for BlocklistZoneHandler {
-    ghost use Rattle.hickory_store.specs.BlockAnswers.{Blocklist};
+    ghost use Rattle.hickory_store.specs.blocklist.BlockAnswers.{Blocklist};
 
     ghost Value = { Blocklist };
 
@@ -90,20 +91,26 @@ impl BlocklistZoneHandler {
 
     /// Adds the names that a list has, to those that are there. The reader is read to its end before anything is added.
     ///
-    /// Each line lists a name, or the address `0.0.0.0`, one blank and a name. A `#` begins a comment; white space around
-    /// what stands before it does not matter. The final dot of a name may be missing, letter case does not matter, and
-    /// `*` may stand as a label; as the first one it makes a wildcard. Any other line is skipped without a word, so that these are:
+    /// Each line lists a name, or the address `0.0.0.0`, one blank and a name. A `#` begins a comment; white space
+    /// around what stands before it does not matter. The final dot of a name may be missing, letter case does not
+    /// matter, and `*` may stand as a label; as the first one it makes a wildcard. Any other line is skipped without a
+    /// word, so that these are:
     ///
-    /// - a line that begins or ends with a blank, unless a comment stands behind it: ` foo.com`, ` 0.0.0.0 foo.com`, `foo.com `;
+    /// - a line that begins or ends with a blank, unless a comment stands behind it: ` foo.com`, ` 0.0.0.0 foo.com`,
+    ///   `foo.com `;
     /// - an address and a name with a tab or with several blanks between them;
     /// - a name behind any other address, as `127.0.0.1 foo.com` and `:: foo.com`, and several names on one line;
     /// - a name with other characters than letters, digits, `-` and `_`, or with too long a label, or too long itself.
     ///
     /// An address alone has the form of a name and counts as one: `0.0.0.0` on a line lists the name `0.0.0.0.`.
     ///
-    /// A read that fails ends the call with `Io`, and nothing is added; so does one that was only interrupted, which is not tried again.
+    /// # Errors
+    ///
+    /// A read that fails ends the call with `Io`, and nothing is added; so does one that was only interrupted, which is
+    /// not tried again.
     pub fn add<R: ListReader>(&mut self, reader: &mut R) -> Result<(), AddError>
-        ensures added { Adds result (R.remaining reader.old) (R.remaining reader.new) self.old.entries self.new.entries }
+        ensures added { Adds result (R.remaining reader.old) (R.remaining reader.new) self.old.entries
+            self.new.entries }
         ensures kept { self.new ≡ record self.old { entries = self.new.entries } }
         ensures failures { CountsIo result (R.failures reader.old) (R.failures reader.new) }
     {

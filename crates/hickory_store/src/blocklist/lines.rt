@@ -4,9 +4,9 @@ ghost use Rattle.std.specs.Prelude.{◌≡◌, ◌↔◌, [], IfOk, IsTrue};
 ghost use Rattle.std.specs.Option.{option_copied};
 ghost use Rattle.std.specs.Str.{trim};
 ghost use Rattle.wire_names.specs.rr.domain.DomainName.{DomainName};
-ghost use Rattle.hickory_store.specs.ListLines.{Lists, entry_of, name_of};
-ghost use Rattle.hickory_store.specs.ListReports.{IsLine};
-ghost use Rattle.hickory_store.specs.Entries.{Tells};
+ghost use Rattle.hickory_store.specs.blocklist.ListLines.{Lists, entry_of, name_of};
+ghost use Rattle.hickory_store.specs.blocklist.ListReports.{IsLine};
+ghost use Rattle.hickory_store.specs.blocklist.Entries.{Tells};
 
 use hickory_wire::{LowerName, Name, NameError};
 use std::alloc::{AllocError, Global};

@@ -1,7 +1,7 @@
 //! Where lists are read from.
 
 ghost use Rattle.std.specs.Prelude.{◌≡◌, ◌<◌, ◌++◌, ℕ, List, length, Err, IfOk, OnOk};
-ghost use Rattle.hickory_store.specs.Readers.{CountsIo, ReadsToEnd};
+ghost use Rattle.hickory_store.specs.blocklist.Readers.{CountsIo, ReadsToEnd};
 ghost use Rattle.hickory_store.specs.declared.blocklist.handler.AddError.TheVariants as add_error;
 
 use crate::blocklist::handler::AddError;
@@ -17,14 +17,14 @@ use std::marker::Model;
 pub trait ListReader {
     ghost use Rattle.std.specs.Prelude.{◌≡◌, ◌+◌, ◌%◌, ◌^◌, ℕ, List, Option, OnOk, OnErr};
     ghost use Rattle.std.specs.Io.{ReadsAtMost};
-    ghost use Rattle.hickory_store.specs.Readers.{TakesFront};
+    ghost use Rattle.hickory_store.specs.blocklist.Readers.{TakesFront};
 
     ghost remaining: { Self → Option (List ℕ) };
 
     ghost failures: { Self → ℕ };
 
-    /// Puts bytes into the front of the slice, and answers how many: a front of those that it has left. The answer 0 for
-    /// a slice that is not empty says that none is left. An `Err` counts one failure, and an `Ok` none.
+    /// Puts bytes into the front of the slice, and answers how many: a front of those that it has left. The answer 0
+    /// for a slice that is not empty says that none is left. An `Err` counts one failure, and an `Ok` none.
     fn read(&mut self, buffer: &mut [u8]) -> io::Result<usize>
         ensures bound { ReadsAtMost result buffer.new }
         ensures bytes { TakesFront (remaining self.old) (remaining self.new) result buffer.new }
@@ -34,7 +34,8 @@ pub trait ListReader {
 
 /// A reader of std as a reader of lists: it counts the failures of the reader inside.
 ///
-/// It takes a reader over, and [`into_inner`](CountedReader::into_inner) gives it back; or it borrows one, which the caller keeps:
+/// It takes a reader over, and [`into_inner`](CountedReader::into_inner) gives it back; or it borrows one, which the
+/// caller keeps:
 ///
 /// ```text
 /// let mut list = CountedReader::new(&mut reader);
@@ -50,7 +51,7 @@ pub struct CountedReader<R> {
 }
 
 impl<R> Model for CountedReader<R> {
-    ghost use Rattle.hickory_store.specs.Readers.{Counted};
+    ghost use Rattle.hickory_store.specs.blocklist.Readers.{Counted};
 
     ghost Value = { Counted R };
 
@@ -110,7 +111,8 @@ fn append_all<R: ListReader>(
     chunk: &mut [u8],
 ) -> Result<(), AddError>
     requires { 0 < length chunk.old }
-    ensures ok { OnOk result ((rest : List ℕ) × ReadsToEnd (R.remaining reader.old) (R.remaining reader.new) rest × (bytes.new.items ≡ bytes.old.items ++ rest)) }
+    ensures ok { OnOk result ((rest : List ℕ) × ReadsToEnd (R.remaining reader.old) (R.remaining reader.new) rest ×
+        (bytes.new.items ≡ bytes.old.items ++ rest)) }
     ensures failures { CountsIo result (R.failures reader.old) (R.failures reader.new) }
     ensures no_text { ¬ (result ≡ Err add_error.NotUtf8) }
 {

@@ -1,7 +1,7 @@
 //! What the lines of a list come to.
 
 ghost use Rattle.std.specs.Prelude.{◌∷◌, ◌++◌, [], List, IfOk, OnOk};
-ghost use Rattle.hickory_store.specs.ListReports.{IsReport, ReportsText};
+ghost use Rattle.hickory_store.specs.blocklist.ListReports.{IsReport, ReportsText};
 ghost use Rattle.hickory_store.specs.declared.blocklist.lines.ListLine.{ListLine as Line};
 ghost use Rattle.hickory_store.specs.declared.blocklist.lines.ListLine.TheVariants as list_line;
 
@@ -55,7 +55,8 @@ impl ListReport {
 
     /// Counts a line that is skipped.
     fn skip(&mut self) -> Result<(), AllocError>
-        ensures { OnOk result ((lines : List Line) → IsReport lines self.old → IsReport (lines ++ list_line.Skipped ∷ []) self.new) }
+        ensures { OnOk result ((lines : List Line) → IsReport lines self.old →
+            IsReport (lines ++ list_line.Skipped ∷ []) self.new) }
     {
         self.lines = self.lines.saturating_add(1);
         self.skipped = self.skipped.saturating_add(1);
@@ -77,8 +78,8 @@ impl ListReport {
         Ok(())
     }
 
-    /// The report of the lines of a text. Each line is read as [`add`](crate::blocklist::BlocklistZoneHandler::add) reads it, and nothing is
-    /// added to any list. An error says that memory was refused.
+    /// The report of the lines of a text. Each line is read as [`add`](crate::blocklist::BlocklistZoneHandler::add)
+    /// reads it, and nothing is added to any list. An error says that memory was refused.
     pub fn of_text(alloc: Global, text: &str) -> Result<ListReport, AllocError>
         ensures { IfOk result (ReportsText text.now) }
     {

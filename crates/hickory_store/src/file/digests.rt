@@ -5,7 +5,7 @@ ghost use Rattle.std.specs.Hash as fed;
 ghost use Rattle.std.specs.Hash.DefaultHasher as sip;
 ghost use Rattle.std.specs.Cmp.Rules.{comparing, hashing};
 ghost use Rattle.std.proofs.Common.{rules};
-ghost use Rattle.hickory_store.specs.Digests.{data_writes, digest_of};
+ghost use Rattle.hickory_store.specs.representation.Digests.{data_writes, digest_of};
 
 use hickory_wire::{Octets, RData, Record};
 use std::hash::{DefaultHasher, Hash, Hasher};

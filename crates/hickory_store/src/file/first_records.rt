@@ -4,11 +4,11 @@ ghost use Rattle.std.specs.Prelude.{◌≡◌, IfOk, List, OnOk, not};
 ghost use Rattle.std.specs.List.{list_any};
 ghost use Rattle.wire_messages.specs.declared.rr.rdata.RData.{RData as Data};
 ghost use Rattle.wire_messages.specs.declared.rr.record.Record.{Record as ResourceRecord};
-ghost use Rattle.hickory_store.specs.Identity.{same_record};
-ghost use Rattle.hickory_store.specs.FirstRecords.{Knows, digested, first_records, keep_first};
+ghost use Rattle.hickory_store.specs.updates.Identity.{same_record};
+ghost use Rattle.hickory_store.specs.file.FirstRecords.{Knows, digested, first_records, keep_first};
 
 use crate::file::digests::{Digested, digest};
-use crate::sqlite::laws::identities;
+use crate::updates::laws::identities;
 use hickory_wire::Record;
 use hickory_wire::name_laws::name_comparisons;
 use std::alloc::{AllocError, Global};
@@ -41,7 +41,8 @@ fn is_first(met: &mut Met, q: &Record) -> Result<bool, AllocError>
 
 /// Puts a record last, unless the same was met.
 fn keep(met: &mut Met, kept: &mut Vec<Record>, q: Record) -> Result<(), AllocError>
-    ensures { OnOk result (Knows kept.old.items met.old → (kept.new.items ≡ keep_first kept.old.items q) × Knows kept.new.items met.new) }
+    ensures { OnOk result (Knows kept.old.items met.old → (kept.new.items ≡ keep_first kept.old.items q) ×
+        Knows kept.new.items met.new) }
 {
     if is_first(met, &q)? {
         kept.push(q)?;

@@ -5,11 +5,11 @@ ghost use Rattle.std.specs.Map.{lookup};
 ghost use Rattle.std.specs.Option.{option_copied};
 ghost use Rattle.hickory_base.specs.zone_store.ZoneSets.{IsSoaData, is_key, sets_of};
 ghost use Rattle.hickory_store.specs.declared.file.zones.RecordsError.TheVariants as records_error;
-ghost use Rattle.hickory_store.specs.RecordZones.{AreOfZone, HasOne, IsRecordFault, IsRecordsFault, IsSoaFault, IsZoneOf, soa_set};
+ghost use Rattle.hickory_store.specs.file.RecordZones.{AreOfZone, HasOne, IsRecordFault, IsRecordsFault, IsSoaFault, IsZoneOf, soa_set};
 
 use crate::file::first_records::first_records;
-use crate::sqlite::laws::identities;
-use crate::sqlite::zone_sets::{Sets, sets_of_records};
+use crate::updates::laws::identities;
+use crate::updates::zone_sets::{Sets, sets_of_records};
 use hickory_base::zone_store::{AxfrPolicy, InMemoryZoneHandler, ZoneType};
 use hickory_wire::name_laws::name_comparisons;
 use hickory_wire::{LowerName, Name, RData, Record, RecordType, RrKey, SOA};
@@ -149,10 +149,14 @@ fn check_soa(alloc: Global, apex: &Name, sets: &Sets) -> Result<(), RecordsError
     }
 }
 
-/// The zone of this apex that has these records, by owner name and type, each RRset in their order. Of records that are the same but for
-/// their TTL the first counts (RFC 2181 section 5). It takes about as long as sorting the records, whatever the sets that they make.
+/// The zone of this apex that has these records, by owner name and type, each RRset in their order. Of records that are
+/// the same but for their TTL the first counts (RFC 2181 section 5). It takes about as long as sorting the records,
+/// whatever the sets that they make.
 ///
-/// The first record that is wrong is told; where each is right alone, that there is no SOA record at the apex, or more than one.
+/// # Errors
+///
+/// The first record that is wrong is told; where each is right alone, that there is no SOA record at the apex, or more
+/// than one.
 pub fn zone_of_records(
     alloc: Global,
     apex: &Name,

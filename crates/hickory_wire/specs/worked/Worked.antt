@@ -116,8 +116,8 @@ longest_name = named (letters 63 ∷ letters 63 ∷ letters 63 ∷ letters 61 �
 abbrev pub too_long_name : List ℕ
 too_long_name = label_of_letters 63 ++ label_of_letters 63 ++ label_of_letters 63 ++ label_of_letters 62 ++ 0 ∷ []
 
--- labels of 63, 63, 63 and n bytes with their end byte at 0, and behind them the label a and a pointer to 0: a name has at most 255 bytes with
--- those that stand where its pointers lead (RFC 1035 sections 2.3.4 and 4.1.4)
+-- labels of 63, 63, 63 and n bytes with their end byte at 0, and behind them the label a and a pointer to 0: a name has
+-- at most 255 bytes with those that stand where its pointers lead (RFC 1035 sections 2.3.4 and 4.1.4)
 abbrev pub name_through_pointer : ℕ → List ℕ
 name_through_pointer n = label_of_letters 63 ++ label_of_letters 63 ++ label_of_letters 63 ++ label_of_letters n ++ 0x00 ∷ 0x01 ∷ 0x61 ∷ 0xc0 ∷ 0x00 ∷ []
 
@@ -242,7 +242,8 @@ tsig_zeros = 0x00 ∷ 0x00 ∷ 0xfa ∷ 0x00 ∷ 0xff ∷ 0x00 ∷ 0x00 ∷ 0x00
 abbrev pub zero_signature : TSIG
 zero_signature = record { algorithm = root; time = 0; fudge = 0; mac = []; oid = 0; error = 0; other = [] }
 
--- algorithm a., time 6027214848, fudge 300, a MAC of two bytes, the original id 0x1234, the error 18, BADTIME, and the server's time
+-- algorithm a., time 6027214848, fudge 300, a MAC of two bytes, the original id 0x1234, the error 18, BADTIME, and the
+-- server's time
 abbrev pub tsig_bad_time : List ℕ
 tsig_bad_time = 0x00 ∷ 0x00 ∷ 0xfa ∷ 0x00 ∷ 0xff ∷ 0x00 ∷ 0x00 ∷ 0x00 ∷ 0x00 ∷ 0x00 ∷ 0x1b ∷ 0x01 ∷ 0x61 ∷ 0x00 ∷ 0x00 ∷ 0x01
     ∷ 0x67 ∷ 0x40 ∷ 0x00 ∷ 0x00 ∷ 0x01 ∷ 0x2c ∷ 0x00 ∷ 0x02 ∷ 0xaa ∷ 0xbb ∷ 0x12 ∷ 0x34 ∷ 0x00 ∷ 0x12 ∷ 0x00 ∷ 0x06
@@ -317,7 +318,8 @@ saying max_payload rcode_high version = record { max_payload = max_payload; rcod
 abbrev pub with_sig : Additionals
 with_sig = record no_additionals { records = record_of root 255 0 (rdata.Update0 24) ∷ [] }
 
--- an OPT record with every field: payload 1232, high code 255, version 2, DO, the first and the last of the flags behind it, and an option
+-- an OPT record with every field: payload 1232, high code 255, version 2, DO, the first and the last of the flags
+-- behind it, and an option
 abbrev pub opt_every_field : List ℕ
 opt_every_field = 0x00 ∷ 0x00 ∷ 0x29 ∷ 0x04 ∷ 0xd0 ∷ 0xff ∷ 0x02 ∷ 0xc0 ∷ 0x01 ∷ 0x00 ∷ 0x04 ∷ 0x00 ∷ 0x03 ∷ 0x00 ∷ 0x00 ∷ []
 

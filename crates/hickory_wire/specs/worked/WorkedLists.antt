@@ -45,7 +45,7 @@ five_lists = record {
   signature = Some signature_record;
 }
 
--- the same with TC of its own
+-- five lists in a reply with TC of its own
 abbrev pub five_lists_truncated : Reply
 five_lists_truncated = record five_lists { metadata = record (response 0 0) { truncation = true } }
 
@@ -53,7 +53,8 @@ five_lists_truncated = record five_lists { metadata = record (response 0 0) { tr
 abbrev pub section_bytes : List ℕ
 section_bytes = a_record ++ root_server_bytes ++ root_authority_bytes ++ root_pointer_bytes
 
--- all of it, 123 bytes: one answer, two authorities, three additionals, TC as it was; an OPT record with payload 512 and DO, then the TSIG
+-- all of it, 123 bytes: one answer, two authorities, three additionals, TC as it was; an OPT record with payload 512
+-- and DO, then the TSIG
 abbrev pub five_lists_whole : Fronts
 five_lists_whole = record { answers = all_of 1; authorities = all_of 2; additionals = all_of 1; opt = all_of 1; signature = all_of 1 }
 

@@ -1,4 +1,5 @@
--- Worked examples: replies with names by pointers, and behind a record that was left out, by hand from RFC 1035 section 4.1.4.
+-- Worked examples: replies with names by pointers, and behind a record that was left out, by hand from RFC 1035 section
+-- 4.1.4.
 use Rattle.std.specs.Prelude.{ℕ, List, [], ◌∷◌, codes, true, None}
 use Rattle.wire_names.specs.rr.domain.DomainName.{DomainName}
 use Rattle.wire_messages.specs.serialize.writing.Reply.{Reply}

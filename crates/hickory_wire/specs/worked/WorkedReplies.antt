@@ -135,7 +135,8 @@ long_reply_cut = 0x12 ∷ 0x34 ∷ 0x87 ∷ 0x00 ∷ 0x00 ∷ 0x00 ∷ 0x00 ∷ 
     ∷ 0x01 ∷ 0x00 ∷ 0x00 ∷ 0x0e ∷ 0x10 ∷ 0x00 ∷ 0x04 ∷ 0x5d ∷ 0xb8 ∷ 0xd7 ∷ 0x0e ∷ 0x00 ∷ 0x00 ∷ 0x01 ∷ 0x00 ∷ 0x01
     ∷ 0x00 ∷ 0x00 ∷ 0x00 ∷ 0x00 ∷ 0x00 ∷ 0x04 ∷ 0xc0 ∷ 0x00 ∷ 0x02 ∷ 0x01 ∷ []
 
--- a hundred answers of 31 bytes in full, and of 16 with their name as a pointer, of which thirty fit 512 bytes, since 12 + 31 + 29 * 16 is 507
+-- a hundred answers of 31 bytes in full, and of 16 with their name as a pointer, of which thirty fit 512 bytes, since
+-- 12 + 31 + 29 * 16 is 507
 abbrev pub hundred_answers : Reply
 hundred_answers = plain_reply www_metadata (replicate 100 www_answer) [] None
 

@@ -28,7 +28,8 @@ use text_words::{
 /// The IPv4 address that a word is.
 pub(crate) fn ipv4(word: &Word<'_>) -> Result<Ipv4Addr, TextError>
     ensures spelled { IfOk result (λ address. (word.now.quoted ≡ false) × IsIpv4Text word.now.bytes.now address) }
-    ensures refused { OnErr result (HasNone (λ address. (word.now.quoted ≡ false) × IsIpv4Text word.now.bytes.now address)) }
+    ensures refused { OnErr result
+        (HasNone (λ address. (word.now.quoted ≡ false) × IsIpv4Text word.now.bytes.now address)) }
 {
     let bad = word.fault(TextFault::BadAddress);
     if word.quoted {
@@ -43,7 +44,8 @@ pub(crate) fn ipv4(word: &Word<'_>) -> Result<Ipv4Addr, TextError>
 /// The IPv6 address that a word is.
 pub(crate) fn ipv6(word: &Word<'_>) -> Result<Ipv6Addr, TextError>
     ensures spelled { IfOk result (λ address. (word.now.quoted ≡ false) × IsIpv6Text word.now.bytes.now address) }
-    ensures refused { OnErr result (HasNone (λ address. (word.now.quoted ≡ false) × IsIpv6Text word.now.bytes.now address)) }
+    ensures refused { OnErr result
+        (HasNone (λ address. (word.now.quoted ≡ false) × IsIpv6Text word.now.bytes.now address)) }
 {
     let bad = word.fault(TextFault::BadAddress);
     if word.quoted {
@@ -58,7 +60,8 @@ pub(crate) fn ipv6(word: &Word<'_>) -> Result<Ipv6Addr, TextError>
 /// The number of 8 bits that a word is.
 pub(crate) fn number8(word: &Word<'_>) -> Result<u8, TextError>
     ensures spelled { IfOk result (λ n. (word.now.quoted ≡ false) × IsNumber word.now.bytes.now n × (n < 2 ^ 8)) }
-    ensures refused { OnErr result (HasNone (λ n. (word.now.quoted ≡ false) × IsNumber word.now.bytes.now n × (n < 2 ^ 8))) }
+    ensures refused { OnErr result
+        (HasNone (λ n. (word.now.quoted ≡ false) × IsNumber word.now.bytes.now n × (n < 2 ^ 8))) }
 {
     let number = word.number()?;
     match u8::try_from(number) {
@@ -70,7 +73,8 @@ pub(crate) fn number8(word: &Word<'_>) -> Result<u8, TextError>
 /// The number of 16 bits that a word is.
 pub(crate) fn number16(word: &Word<'_>) -> Result<u16, TextError>
     ensures spelled { IfOk result (λ n. (word.now.quoted ≡ false) × IsNumber word.now.bytes.now n × (n < 2 ^ 16)) }
-    ensures refused { OnErr result (HasNone (λ n. (word.now.quoted ≡ false) × IsNumber word.now.bytes.now n × (n < 2 ^ 16))) }
+    ensures refused { OnErr result
+        (HasNone (λ n. (word.now.quoted ≡ false) × IsNumber word.now.bytes.now n × (n < 2 ^ 16))) }
 {
     let number = word.number()?;
     match u16::try_from(number) {
@@ -81,8 +85,10 @@ pub(crate) fn number16(word: &Word<'_>) -> Result<u16, TextError>
 
 /// Puts a number of 8 bits behind other bytes.
 pub(crate) fn put_number8(word: &Word<'_>, data: &mut Vec<u8>) -> Result<(), TextError>
-    ensures put { OnOk result ((origin : Option DomainName) → Puts (IsField origin field.Number8 word.now) «data».old.items «data».new.items) }
-    ensures refused { IfErr result (λ e. e ≢ Memory → (origin : Option DomainName) → HasNone (IsField origin field.Number8 word.now)) }
+    ensures put { OnOk result ((origin : Option DomainName) →
+        Puts (IsField origin field.Number8 word.now) «data».old.items «data».new.items) }
+    ensures refused { IfErr result (λ e. e ≢ Memory → (origin : Option DomainName) →
+        HasNone (IsField origin field.Number8 word.now)) }
 {
     let number = number8(word)?;
     data.push(number)?;
@@ -91,8 +97,10 @@ pub(crate) fn put_number8(word: &Word<'_>, data: &mut Vec<u8>) -> Result<(), Tex
 
 /// Puts a number of 16 bits behind other bytes.
 pub(crate) fn put_number16(word: &Word<'_>, data: &mut Vec<u8>) -> Result<(), TextError>
-    ensures put { OnOk result ((origin : Option DomainName) → Puts (IsField origin field.Number16 word.now) «data».old.items «data».new.items) }
-    ensures refused { IfErr result (λ e. e ≢ Memory → (origin : Option DomainName) → HasNone (IsField origin field.Number16 word.now)) }
+    ensures put { OnOk result ((origin : Option DomainName) →
+        Puts (IsField origin field.Number16 word.now) «data».old.items «data».new.items) }
+    ensures refused { IfErr result (λ e. e ≢ Memory → (origin : Option DomainName) →
+        HasNone (IsField origin field.Number16 word.now)) }
 {
     let number = number16(word)?;
     data.extend_from_slice(&number.to_be_bytes())?;
@@ -100,8 +108,10 @@ pub(crate) fn put_number16(word: &Word<'_>, data: &mut Vec<u8>) -> Result<(), Te
 }
 
 fn put_number32(word: &Word<'_>, data: &mut Vec<u8>) -> Result<(), TextError>
-    ensures put { OnOk result ((origin : Option DomainName) → Puts (IsField origin field.Number32 word.now) «data».old.items «data».new.items) }
-    ensures refused { IfErr result (λ e. e ≢ Memory → (origin : Option DomainName) → HasNone (IsField origin field.Number32 word.now)) }
+    ensures put { OnOk result ((origin : Option DomainName) →
+        Puts (IsField origin field.Number32 word.now) «data».old.items «data».new.items) }
+    ensures refused { IfErr result (λ e. e ≢ Memory → (origin : Option DomainName) →
+        HasNone (IsField origin field.Number32 word.now)) }
 {
     let number = word.number()?;
     data.extend_from_slice(&number.to_be_bytes())?;
@@ -109,8 +119,10 @@ fn put_number32(word: &Word<'_>, data: &mut Vec<u8>) -> Result<(), TextError>
 }
 
 fn put_time(word: &Word<'_>, data: &mut Vec<u8>) -> Result<(), TextError>
-    ensures put { OnOk result ((origin : Option DomainName) → Puts (IsField origin field.Time word.now) «data».old.items «data».new.items) }
-    ensures refused { IfErr result (λ e. e ≢ Memory → (origin : Option DomainName) → HasNone (IsField origin field.Time word.now)) }
+    ensures put { OnOk result ((origin : Option DomainName) →
+        Puts (IsField origin field.Time word.now) «data».old.items «data».new.items) }
+    ensures refused { IfErr result (λ e. e ≢ Memory → (origin : Option DomainName) →
+        HasNone (IsField origin field.Time word.now)) }
 {
     let seconds = seconds_of(word)?;
     data.extend_from_slice(&seconds.to_be_bytes())?;
@@ -123,8 +135,10 @@ pub(crate) fn put_name(
     origin: Option<&Name>,
     data: &mut Vec<u8>,
 ) -> Result<(), TextError>
-    ensures put { OnOk result (Puts (IsField (option_copied origin.entry) field.Name word.now) «data».old.items «data».new.items) }
-    ensures refused { IfErr result (λ e. e ≢ Memory → HasNone (IsField (option_copied origin.entry) field.Name word.now)) }
+    ensures put { OnOk result (Puts (IsField (option_copied origin.entry) field.Name word.now) «data».old.items
+        «data».new.items) }
+    ensures refused { IfErr result
+        (λ e. e ≢ Memory → HasNone (IsField (option_copied origin.entry) field.Name word.now)) }
 {
     let name = absolute_name(alloc, word, origin)?;
     data.extend_from_slice(name.as_wire())?;
@@ -133,8 +147,10 @@ pub(crate) fn put_name(
 }
 
 fn put_ipv4(word: &Word<'_>, data: &mut Vec<u8>) -> Result<(), TextError>
-    ensures put { OnOk result ((origin : Option DomainName) → Puts (IsField origin field.Ipv4 word.now) «data».old.items «data».new.items) }
-    ensures refused { IfErr result (λ e. e ≢ Memory → (origin : Option DomainName) → HasNone (IsField origin field.Ipv4 word.now)) }
+    ensures put { OnOk result ((origin : Option DomainName) →
+        Puts (IsField origin field.Ipv4 word.now) «data».old.items «data».new.items) }
+    ensures refused { IfErr result (λ e. e ≢ Memory → (origin : Option DomainName) →
+        HasNone (IsField origin field.Ipv4 word.now)) }
 {
     let address = ipv4(word)?;
     data.extend_from_slice(&address.octets())?;
@@ -142,8 +158,10 @@ fn put_ipv4(word: &Word<'_>, data: &mut Vec<u8>) -> Result<(), TextError>
 }
 
 fn put_ipv6(word: &Word<'_>, data: &mut Vec<u8>) -> Result<(), TextError>
-    ensures put { OnOk result ((origin : Option DomainName) → Puts (IsField origin field.Ipv6 word.now) «data».old.items «data».new.items) }
-    ensures refused { IfErr result (λ e. e ≢ Memory → (origin : Option DomainName) → HasNone (IsField origin field.Ipv6 word.now)) }
+    ensures put { OnOk result ((origin : Option DomainName) →
+        Puts (IsField origin field.Ipv6 word.now) «data».old.items «data».new.items) }
+    ensures refused { IfErr result (λ e. e ≢ Memory → (origin : Option DomainName) →
+        HasNone (IsField origin field.Ipv6 word.now)) }
 {
     let address = ipv6(word)?;
     data.extend_from_slice(&address.octets())?;
@@ -151,8 +169,10 @@ fn put_ipv6(word: &Word<'_>, data: &mut Vec<u8>) -> Result<(), TextError>
 }
 
 fn put_type(word: &Word<'_>, data: &mut Vec<u8>) -> Result<(), TextError>
-    ensures put { OnOk result ((origin : Option DomainName) → Puts (IsField origin field.RecordType word.now) «data».old.items «data».new.items) }
-    ensures refused { IfErr result (λ e. e ≢ Memory → (origin : Option DomainName) → HasNone (IsField origin field.RecordType word.now)) }
+    ensures put { OnOk result ((origin : Option DomainName) →
+        Puts (IsField origin field.RecordType word.now) «data».old.items «data».new.items) }
+    ensures refused { IfErr result (λ e. e ≢ Memory → (origin : Option DomainName) →
+        HasNone (IsField origin field.RecordType word.now)) }
 {
     let record_type = type_of(word)?;
     data.extend_from_slice(&record_type.value().to_be_bytes())?;
@@ -160,8 +180,10 @@ fn put_type(word: &Word<'_>, data: &mut Vec<u8>) -> Result<(), TextError>
 }
 
 fn put_moment(word: &Word<'_>, data: &mut Vec<u8>) -> Result<(), TextError>
-    ensures put { OnOk result ((origin : Option DomainName) → Puts (IsField origin field.Moment word.now) «data».old.items «data».new.items) }
-    ensures refused { IfErr result (λ e. e ≢ Memory → (origin : Option DomainName) → HasNone (IsField origin field.Moment word.now)) }
+    ensures put { OnOk result ((origin : Option DomainName) →
+        Puts (IsField origin field.Moment word.now) «data».old.items «data».new.items) }
+    ensures refused { IfErr result (λ e. e ≢ Memory → (origin : Option DomainName) →
+        HasNone (IsField origin field.Moment word.now)) }
 {
     let seconds = moment(word)?;
     data.extend_from_slice(&seconds.to_be_bytes())?;
@@ -192,7 +214,8 @@ pub(crate) fn put_field(
     origin: Option<&Name>,
     data: &mut Vec<u8>,
 ) -> Result<(), TextError>
-    ensures put { OnOk result (Puts (IsField (option_copied origin.entry) field word.now) «data».old.items «data».new.items) }
+    ensures put { OnOk result (Puts (IsField (option_copied origin.entry) field word.now) «data».old.items
+        «data».new.items) }
     ensures refused { IfErr result (λ e. e ≢ Memory → HasNone (IsField (option_copied origin.entry) field word.now)) }
 {
     match field {
@@ -219,7 +242,8 @@ pub(crate) fn put_field(
     }
 }
 
-/// Puts the bytes of fields behind others, and tells the words behind those that stand for them. `end` is the place where a word is missing.
+/// Puts the bytes of fields behind others, and tells the words behind those that stand for them. `end` is the place
+/// where a word is missing.
 pub(crate) fn put_fields<'a, 'w>(
     alloc: Global,
     fields: &[Field],
@@ -228,8 +252,11 @@ pub(crate) fn put_fields<'a, 'w>(
     origin: Option<&Name>,
     data: &mut Vec<u8>,
 ) -> Result<&'w [Word<'a>], TextError>
-    ensures put { IfOk result (λ behind. Puts (AreFieldsBefore (option_copied origin.entry) fields.now words.now behind.now) «data».old.items «data».new.items) }
-    ensures refused { IfErr result (λ e. e ≢ Memory → (behind : List Word) → HasNone (AreFieldsBefore (option_copied origin.entry) fields.now words.now behind)) }
+    ensures put { IfOk result (λ behind.
+        Puts (AreFieldsBefore (option_copied origin.entry) fields.now words.now behind.now) «data».old.items
+        «data».new.items) }
+    ensures refused { IfErr result (λ e. e ≢ Memory → (behind : List Word) →
+        HasNone (AreFieldsBefore (option_copied origin.entry) fields.now words.now behind)) }
 {
     let mut place = 0;
     for field in fields {

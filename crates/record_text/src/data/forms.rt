@@ -26,8 +26,10 @@ fn mail_exchange(
     origin: Option<&Name>,
 ) -> Result<RData, TextError>
     ensures form { IfOk result (λ rdata. type_of rdata ≡ 15) }
-    ensures spelled { IfOk result (λ rdata. IsData (option_copied origin.entry) 15 (preference.now ∷ exchange.now ∷ []) (data_octets rdata)) }
-    ensures refused { IfErr result (λ e. e ≢ Memory → HasNone (IsData (option_copied origin.entry) 15 (preference.now ∷ exchange.now ∷ []))) }
+    ensures spelled { IfOk result (λ rdata. IsData (option_copied origin.entry) 15 (preference.now ∷ exchange.now ∷ [])
+        (data_octets rdata)) }
+    ensures refused { IfErr result
+        (λ e. e ≢ Memory → HasNone (IsData (option_copied origin.entry) 15 (preference.now ∷ exchange.now ∷ []))) }
 {
     let preference = number16(preference)?;
     let exchange = absolute_name(alloc, exchange, origin)?;
@@ -98,8 +100,10 @@ fn as_bytes(
     origin: Option<&Name>,
 ) -> Result<RData, TextError>
     ensures form { IfOk result (λ rdata. type_of rdata ≡ record_type) }
-    ensures spelled { IfOk result (λ rdata. IsData (option_copied origin.entry) record_type words.now (data_octets rdata)) }
-    ensures refused { IfErr result (λ e. e ≢ Memory → HasNone (IsData (option_copied origin.entry) record_type words.now)) }
+    ensures spelled { IfOk result (λ rdata. IsData (option_copied origin.entry) record_type words.now
+        (data_octets rdata)) }
+    ensures refused { IfErr result
+        (λ e. e ≢ Memory → HasNone (IsData (option_copied origin.entry) record_type words.now)) }
 {
     let Some(row) = row_of(record_type.value()) else {
         let place = words.first().map_or(end, |word| word.start);
@@ -126,8 +130,10 @@ pub(crate) fn data_in_form(
     origin: Option<&Name>,
 ) -> Result<RData, TextError>
     ensures form { IfOk result (λ rdata. type_of rdata ≡ record_type) }
-    ensures spelled { IfOk result (λ rdata. IsData (option_copied origin.entry) record_type words.now (data_octets rdata)) }
-    ensures refused { IfErr result (λ e. e ≢ Memory → HasNone (IsData (option_copied origin.entry) record_type words.now)) }
+    ensures spelled { IfOk result (λ rdata. IsData (option_copied origin.entry) record_type words.now
+        (data_octets rdata)) }
+    ensures refused { IfErr result
+        (λ e. e ≢ Memory → HasNone (IsData (option_copied origin.entry) record_type words.now)) }
 {
     match (record_type, words) {
         (RecordType::A, [word]) => Ok(RData::A(ipv4(word)?)),

@@ -47,7 +47,8 @@ pub(crate) fn put_gateway(
     origin: Option<&Name>,
     data: &mut Vec<u8>,
 ) -> Result<(), TextError>
-    ensures put { OnOk result (Puts (IsGateway (option_copied origin.entry) words.now) «data».old.items «data».new.items) }
+    ensures put { OnOk result (Puts (IsGateway (option_copied origin.entry) words.now) «data».old.items
+        «data».new.items) }
     ensures refused { IfErr result (λ e. e ≢ Memory → HasNone (IsGateway (option_copied origin.entry) words.now)) }
 {
     let Some(first) = words.first() else {

@@ -15,8 +15,10 @@ use text_words::{TextError, TextFault, Word};
 
 /// Puts a salt behind other bytes: its length, and so many bytes; `-` is none.
 pub(crate) fn put_salt(alloc: Global, word: &Word<'_>, data: &mut Vec<u8>) -> Result<(), TextError>
-    ensures put { OnOk result ((origin : Option DomainName) → Puts (IsField origin field.Salt word.now) «data».old.items «data».new.items) }
-    ensures refused { IfErr result (λ e. e ≢ Memory → (origin : Option DomainName) → HasNone (IsField origin field.Salt word.now)) }
+    ensures put { OnOk result ((origin : Option DomainName) →
+        Puts (IsField origin field.Salt word.now) «data».old.items «data».new.items) }
+    ensures refused { IfErr result (λ e. e ≢ Memory → (origin : Option DomainName) →
+        HasNone (IsField origin field.Salt word.now)) }
 {
     if word.quoted {
         return Err(word.fault(TextFault::BadHex));
@@ -64,7 +66,8 @@ fn number_of_group(digits: &[u8]) -> Option<u64>
     Some(number)
 }
 
-/// How many bytes a last group of so many digits makes, and by how much its number is greater than the one that these make.
+/// How many bytes a last group of so many digits makes, and by how much its number is greater than the one that these
+/// make.
 fn last_group(count: usize) -> Option<(usize, u64)>
     ensures value { result ≡ last_group count }
     ensures few { IfSome result (λ last. last.0 ≤ 8) }
@@ -116,8 +119,10 @@ fn base32(alloc: Global, word: &Word<'_>) -> Result<Vec<u8>, TextError>
 
 /// Puts a hash behind other bytes: its length, and so many bytes.
 pub(crate) fn put_hash(alloc: Global, word: &Word<'_>, data: &mut Vec<u8>) -> Result<(), TextError>
-    ensures put { OnOk result ((origin : Option DomainName) → Puts (IsField origin field.Hash word.now) «data».old.items «data».new.items) }
-    ensures refused { IfErr result (λ e. e ≢ Memory → (origin : Option DomainName) → HasNone (IsField origin field.Hash word.now)) }
+    ensures put { OnOk result ((origin : Option DomainName) →
+        Puts (IsField origin field.Hash word.now) «data».old.items «data».new.items) }
+    ensures refused { IfErr result (λ e. e ≢ Memory → (origin : Option DomainName) →
+        HasNone (IsField origin field.Hash word.now)) }
 {
     if word.quoted {
         return Err(word.fault(TextFault::BadBase32));

@@ -1,4 +1,5 @@
-//! Groups of hexadecimal digits with a byte between them: addresses of 48 and 64 bits (RFC 7043), and identifiers of nodes (RFC 6742).
+//! Groups of hexadecimal digits with a byte between them: addresses of 48 and 64 bits (RFC 7043), and identifiers of
+//! nodes (RFC 6742).
 
 ghost use Rattle.std.specs.Prelude.{◌≡◌, ◌≢◌, ◌≤◌, ◌<◌, ◌^◌, ℕ, Option, get_or, length, IfErr, IfNone, IfSome, OnOk};
 ghost use Rattle.std.specs.Char.{digit_value};
@@ -125,7 +126,8 @@ fn put_groups(
 ) -> Result<(), TextError>
     requires no_digit { 16 ≤ digit_value between }
     requires some { 0 < count }
-    ensures put { OnOk result (Puts (SpellsHexGroups between kind count word.now.bytes.now) «data».old.items «data».new.items) }
+    ensures put { OnOk result (Puts (SpellsHexGroups between kind count word.now.bytes.now) «data».old.items
+        «data».new.items) }
     ensures refused { IfErr result (λ e. e ≢ Memory → HasNone (SpellsHexGroups between kind count word.now.bytes.now)) }
 {
     let bad = word.fault(TextFault::BadAddress);
@@ -148,8 +150,10 @@ fn put_groups(
 
 /// Puts an address of 48 bits behind other bytes: six octets with hyphens between them (RFC 7043 section 3.2).
 pub(crate) fn put_eui48(word: &Word<'_>, data: &mut Vec<u8>) -> Result<(), TextError>
-    ensures put { OnOk result ((origin : Option DomainName) → Puts (IsField origin field.Eui48 word.now) «data».old.items «data».new.items) }
-    ensures refused { IfErr result (λ e. e ≢ Memory → (origin : Option DomainName) → HasNone (IsField origin field.Eui48 word.now)) }
+    ensures put { OnOk result ((origin : Option DomainName) →
+        Puts (IsField origin field.Eui48 word.now) «data».old.items «data».new.items) }
+    ensures refused { IfErr result (λ e. e ≢ Memory → (origin : Option DomainName) →
+        HasNone (IsField origin field.Eui48 word.now)) }
 {
     if word.quoted {
         return Err(word.fault(TextFault::BadAddress));
@@ -159,8 +163,10 @@ pub(crate) fn put_eui48(word: &Word<'_>, data: &mut Vec<u8>) -> Result<(), TextE
 
 /// Puts an address of 64 bits behind other bytes: eight octets with hyphens between them (RFC 7043 section 4.2).
 pub(crate) fn put_eui64(word: &Word<'_>, data: &mut Vec<u8>) -> Result<(), TextError>
-    ensures put { OnOk result ((origin : Option DomainName) → Puts (IsField origin field.Eui64 word.now) «data».old.items «data».new.items) }
-    ensures refused { IfErr result (λ e. e ≢ Memory → (origin : Option DomainName) → HasNone (IsField origin field.Eui64 word.now)) }
+    ensures put { OnOk result ((origin : Option DomainName) →
+        Puts (IsField origin field.Eui64 word.now) «data».old.items «data».new.items) }
+    ensures refused { IfErr result (λ e. e ≢ Memory → (origin : Option DomainName) →
+        HasNone (IsField origin field.Eui64 word.now)) }
 {
     if word.quoted {
         return Err(word.fault(TextFault::BadAddress));
@@ -168,10 +174,13 @@ pub(crate) fn put_eui64(word: &Word<'_>, data: &mut Vec<u8>) -> Result<(), TextE
     put_groups(Group::Octet, b'-', 8, word, data)
 }
 
-/// Puts the identifier of a node, or a locator, of 64 bits behind other bytes: four groups with colons between them (RFC 6742 section 2.1.2).
+/// Puts the identifier of a node, or a locator, of 64 bits behind other bytes: four groups with colons between them
+/// (RFC 6742 section 2.1.2).
 pub(crate) fn put_locator64(word: &Word<'_>, data: &mut Vec<u8>) -> Result<(), TextError>
-    ensures put { OnOk result ((origin : Option DomainName) → Puts (IsField origin field.Locator64 word.now) «data».old.items «data».new.items) }
-    ensures refused { IfErr result (λ e. e ≢ Memory → (origin : Option DomainName) → HasNone (IsField origin field.Locator64 word.now)) }
+    ensures put { OnOk result ((origin : Option DomainName) →
+        Puts (IsField origin field.Locator64 word.now) «data».old.items «data».new.items) }
+    ensures refused { IfErr result (λ e. e ≢ Memory → (origin : Option DomainName) →
+        HasNone (IsField origin field.Locator64 word.now)) }
 {
     if word.quoted {
         return Err(word.fault(TextFault::BadAddress));

@@ -68,7 +68,8 @@ fn put_names(
     origin: Option<&Name>,
     data: &mut Vec<u8>,
 ) -> Result<(), TextError>
-    ensures put { OnOk result (Puts (AreNames (option_copied origin.entry) words.now) «data».old.items «data».new.items) }
+    ensures put { OnOk result (Puts (AreNames (option_copied origin.entry) words.now) «data».old.items
+        «data».new.items) }
     ensures refused { IfErr result (λ e. e ≢ Memory → HasNone (AreNames (option_copied origin.entry) words.now)) }
 {
     for word in words {
@@ -87,8 +88,11 @@ fn put_identity(
     origin: Option<&Name>,
     data: &mut Vec<u8>,
 ) -> Result<(), TextError>
-    ensures put { OnOk result (Puts (IsIdentity (option_copied origin.entry) first.now second.now third.now servers.now) «data».old.items «data».new.items) }
-    ensures refused { IfErr result (λ e. e ≢ Memory → HasNone (IsIdentity (option_copied origin.entry) first.now second.now third.now servers.now)) }
+    ensures put { OnOk result (Puts (IsIdentity (option_copied origin.entry) first.now second.now third.now servers.now)
+        «data».old.items «data».new.items) }
+    ensures refused { IfErr result
+        (λ e. e ≢ Memory → HasNone (IsIdentity (option_copied origin.entry) first.now second.now third.now
+        servers.now)) }
 {
     let algorithm = number8(first)?;
     let tag = tag_of(alloc, second)?;
@@ -101,7 +105,8 @@ fn put_identity(
     put_names(alloc, servers, origin, data)
 }
 
-/// Puts the identity of a host behind other bytes: an algorithm, a tag, a key, and names of servers. `end` is the place where a word is missing.
+/// Puts the identity of a host behind other bytes: an algorithm, a tag, a key, and names of servers. `end` is the place
+/// where a word is missing.
 pub(crate) fn put_host(
     alloc: Global,
     words: &[Word<'_>],
@@ -109,8 +114,10 @@ pub(crate) fn put_host(
     origin: Option<&Name>,
     data: &mut Vec<u8>,
 ) -> Result<(), TextError>
-    ensures put { OnOk result (Puts (IsRest (option_copied origin.entry) rest.HostIdentity words.now) «data».old.items «data».new.items) }
-    ensures refused { IfErr result (λ e. e ≢ Memory → HasNone (IsRest (option_copied origin.entry) rest.HostIdentity words.now)) }
+    ensures put { OnOk result (Puts (IsRest (option_copied origin.entry) rest.HostIdentity words.now) «data».old.items
+        «data».new.items) }
+    ensures refused { IfErr result
+        (λ e. e ≢ Memory → HasNone (IsRest (option_copied origin.entry) rest.HostIdentity words.now)) }
 {
     match words {
         [first, second, third, servers @ ..] => {

@@ -1,4 +1,5 @@
-//! Mnemonics of numbers: of algorithms, types of certificates, digests, protocols, services and schemes of notification.
+//! Mnemonics of numbers: of algorithms, types of certificates, digests, protocols, services and schemes of
+//! notification.
 
 ghost use Rattle.std.specs.Prelude.{◌≡◌, ◌≢◌, Any, Option, map, IfErr, IfNone, IfSome, OnOk};
 ghost use Rattle.wire_names.specs.rr.domain.DomainName.{DomainName};
@@ -401,8 +402,10 @@ fn table_of(names: Names) -> &'static [Mnemonic]
 
 /// The number of a mnemonic, the letters of which may have any case.
 fn number_called(table: &[Mnemonic], letters: &[u8]) -> Option<u8>
-    ensures named { IfSome result (λ number. Any (λ m. (m.number ≡ number) × SameLetters m.letters.now letters.now) table.now) }
-    ensures none { IfNone result (HasNone (λ number. Any (λ m. (m.number ≡ number) × SameLetters m.letters.now letters.now) table.now)) }
+    ensures named { IfSome result (λ number.
+        Any (λ m. (m.number ≡ number) × SameLetters m.letters.now letters.now) table.now) }
+    ensures none { IfNone result (HasNone
+        (λ number. Any (λ m. (m.number ≡ number) × SameLetters m.letters.now letters.now) table.now)) }
 {
     let found = table
         .iter()
@@ -420,8 +423,10 @@ pub(crate) fn number_named(names: Names, letters: &[u8]) -> Option<u8>
 
 /// Puts a number of 8 bits behind other bytes, or that of a mnemonic.
 pub(crate) fn put_named8(names: Names, word: &Word<'_>, data: &mut Vec<u8>) -> Result<(), TextError>
-    ensures put { OnOk result ((origin : Option DomainName) → Puts (IsField origin (field.Named8 names) word.now) «data».old.items «data».new.items) }
-    ensures refused { IfErr result (λ e. e ≢ Memory → (origin : Option DomainName) → HasNone (IsField origin (field.Named8 names) word.now)) }
+    ensures put { OnOk result ((origin : Option DomainName) →
+        Puts (IsField origin (field.Named8 names) word.now) «data».old.items «data».new.items) }
+    ensures refused { IfErr result (λ e. e ≢ Memory → (origin : Option DomainName) →
+        HasNone (IsField origin (field.Named8 names) word.now)) }
 {
     if word.quoted {
         return Err(word.fault(TextFault::BadNumber));
@@ -439,8 +444,10 @@ pub(crate) fn put_named16(
     word: &Word<'_>,
     data: &mut Vec<u8>,
 ) -> Result<(), TextError>
-    ensures put { OnOk result ((origin : Option DomainName) → Puts (IsField origin (field.Named16 names) word.now) «data».old.items «data».new.items) }
-    ensures refused { IfErr result (λ e. e ≢ Memory → (origin : Option DomainName) → HasNone (IsField origin (field.Named16 names) word.now)) }
+    ensures put { OnOk result ((origin : Option DomainName) →
+        Puts (IsField origin (field.Named16 names) word.now) «data».old.items «data».new.items) }
+    ensures refused { IfErr result (λ e. e ≢ Memory → (origin : Option DomainName) →
+        HasNone (IsField origin (field.Named16 names) word.now)) }
 {
     if word.quoted {
         return Err(word.fault(TextFault::BadNumber));

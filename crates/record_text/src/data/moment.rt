@@ -78,7 +78,8 @@ fn date_seconds(date: Date) -> u64
     60 * minutes + u64::from(date.second)
 }
 
-/// The seconds of a date since the beginning of 1970, without what goes beyond 32 bits; those before it are counted back from 0.
+/// The seconds of a date since the beginning of 1970, without what goes beyond 32 bits; those before it are counted
+/// back from 0.
 fn date_bits(date: Date) -> u32
     requires { IsDate date }
     ensures { result ≡ date_bits date }

@@ -29,7 +29,8 @@ fn without_dots(alloc: Global, text: &[u8]) -> Result<Vec<u8>, AllocError>
 /// The bytes of digits with dots anywhere among them, behind `0x`.
 fn octets_of(alloc: Global, word: &Word<'_>, digits: &[u8]) -> Result<Vec<u8>, TextError>
     ensures spelled { IfOk result (λ octets. decode_of (without_dots digits.now) ≡ Ok octets.items) }
-    ensures refused { IfErr result (λ e. e ≢ Memory → HasNone (λ octets. decode_of (without_dots digits.now) ≡ Ok octets)) }
+    ensures refused { IfErr result
+        (λ e. e ≢ Memory → HasNone (λ octets. decode_of (without_dots digits.now) ≡ Ok octets)) }
 {
     let digits = without_dots(alloc, digits)?;
     match hex::decode(alloc, digits.as_slice()) {
@@ -44,15 +45,19 @@ fn begins_so(text: &[u8]) -> bool
     ensures zero { result ≡ true → get_or text.now 0 0 ≡ 48 }
     ensures is_x { result ≡ true → (get_or text.now 1 0 ≡ 120) ⊎ (get_or text.now 1 0 ≡ 88) }
     ensures long { result ≡ true → 2 ≤ length text.now }
-    ensures other { result ≡ false → get_or text.now 0 0 ≡ 48 → (get_or text.now 1 0 ≡ 120) ⊎ (get_or text.now 1 0 ≡ 88) → ⊥ }
+    ensures other { result ≡ false → get_or text.now 0 0 ≡ 48 → (get_or text.now 1 0 ≡ 120) ⊎
+        (get_or text.now 1 0 ≡ 88) → ⊥ }
 {
     text.len() >= 2 && text[0] == b'0' && (text[1] == b'x' || text[1] == b'X')
 }
 
-/// Puts an address of the OSI network layer behind other bytes: `0x`, and hexadecimal digits with dots anywhere among them.
+/// Puts an address of the OSI network layer behind other bytes: `0x`, and hexadecimal digits with dots anywhere among
+/// them.
 pub(crate) fn put_nsap(alloc: Global, word: &Word<'_>, data: &mut Vec<u8>) -> Result<(), TextError>
-    ensures put { OnOk result ((origin : Option DomainName) → Puts (IsField origin field.Nsap word.now) «data».old.items «data».new.items) }
-    ensures refused { IfErr result (λ e. e ≢ Memory → (origin : Option DomainName) → HasNone (IsField origin field.Nsap word.now)) }
+    ensures put { OnOk result ((origin : Option DomainName) →
+        Puts (IsField origin field.Nsap word.now) «data».old.items «data».new.items) }
+    ensures refused { IfErr result (λ e. e ≢ Memory → (origin : Option DomainName) →
+        HasNone (IsField origin field.Nsap word.now)) }
 {
     let bad = word.fault(TextFault::BadHex);
     if word.quoted || !begins_so(word.bytes) {

@@ -21,7 +21,8 @@ fn without_mark(text: &[u8]) -> (bool, &[u8])
     (true, &text[1..])
 }
 
-/// How many octets are left without those at the end that are 0, where the octets before a place leave so many, and the one there counts too.
+/// How many octets are left without those at the end that are 0, where the octets before a place leave so many, and the
+/// one there counts too.
 fn longer(octets: &[u8], place: usize, len: usize) -> usize
     requires place { place < length octets.now }
     requires before { take len octets.now ≡ trimmed (take place octets.now) }
@@ -181,7 +182,8 @@ fn put_text(
 fn put_prefix(alloc: Global, word: &Word<'_>, data: &mut Vec<u8>) -> Result<(), TextError>
     ensures plain { OnOk result (word.now.quoted ≡ false) }
     ensures put { OnOk result (Puts (SpellsPrefix word.now.bytes.now) «data».old.items «data».new.items) }
-    ensures refused { IfErr result (λ e. e ≢ Memory → word.now.quoted ≡ false → HasNone (SpellsPrefix word.now.bytes.now)) }
+    ensures refused { IfErr result (λ e. e ≢ Memory → word.now.quoted ≡ false →
+        HasNone (SpellsPrefix word.now.bytes.now)) }
 {
     if word.quoted {
         return Err(word.fault(TextFault::BadAddress));

@@ -38,8 +38,10 @@ fn put_parts(
     origin: Option<&Name>,
     data: &mut Vec<u8>,
 ) -> Result<(), TextError>
-    ensures put { OnOk result (Puts (IsRelay (option_copied origin.entry) first.now second.now third.now) «data».old.items «data».new.items) }
-    ensures refused { IfErr result (λ e. e ≢ Memory → HasNone (IsRelay (option_copied origin.entry) first.now second.now third.now)) }
+    ensures put { OnOk result (Puts (IsRelay (option_copied origin.entry) first.now second.now third.now)
+        «data».old.items «data».new.items) }
+    ensures refused { IfErr result
+        (λ e. e ≢ Memory → HasNone (IsRelay (option_copied origin.entry) first.now second.now third.now)) }
 {
     let discovery = first.number()?;
     if discovery > 1 {
@@ -52,7 +54,8 @@ fn put_parts(
     put_field(alloc, field, third, origin, data)
 }
 
-/// Puts whether a relay may be asked at once, and the relay, behind other bytes. `end` is the place where a word is missing.
+/// Puts whether a relay may be asked at once, and the relay, behind other bytes. `end` is the place where a word is
+/// missing.
 pub(crate) fn put_relay(
     alloc: Global,
     words: &[Word<'_>],
@@ -60,8 +63,10 @@ pub(crate) fn put_relay(
     origin: Option<&Name>,
     data: &mut Vec<u8>,
 ) -> Result<(), TextError>
-    ensures put { OnOk result (Puts (IsRest (option_copied origin.entry) rest.Relay words.now) «data».old.items «data».new.items) }
-    ensures refused { IfErr result (λ e. e ≢ Memory → HasNone (IsRest (option_copied origin.entry) rest.Relay words.now)) }
+    ensures put { OnOk result (Puts (IsRest (option_copied origin.entry) rest.Relay words.now) «data».old.items
+        «data».new.items) }
+    ensures refused { IfErr result
+        (λ e. e ≢ Memory → HasNone (IsRest (option_copied origin.entry) rest.Relay words.now)) }
 {
     match words {
         [first, second, third] => put_parts(alloc, first, second, third, origin, data),

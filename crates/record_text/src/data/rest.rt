@@ -51,7 +51,8 @@ pub(crate) fn joined(
 /// The bytes that hexadecimal digits are.
 pub(crate) fn hex_bytes(alloc: Global, words: &[Word<'_>]) -> Result<Vec<u8>, TextError>
     ensures spelled { IfOk result (λ bytes. ArePlain words.now × (decode_of (bytes_of words.now) ≡ Ok bytes.items)) }
-    ensures refused { IfErr result (λ e. e ≢ Memory → HasNone (λ octets. ArePlain words.now × (decode_of (bytes_of words.now) ≡ Ok octets))) }
+    ensures refused { IfErr result
+        (λ e. e ≢ Memory → HasNone (λ octets. ArePlain words.now × (decode_of (bytes_of words.now) ≡ Ok octets))) }
 {
     let digits = joined(alloc, words, TextFault::BadHex)?;
     match hex::decode(alloc, digits.as_slice()) {
@@ -63,8 +64,10 @@ pub(crate) fn hex_bytes(alloc: Global, words: &[Word<'_>]) -> Result<Vec<u8>, Te
 
 /// Puts the bytes that hexadecimal digits are behind others.
 fn put_hex(alloc: Global, words: &[Word<'_>], data: &mut Vec<u8>) -> Result<(), TextError>
-    ensures put { OnOk result (ArePlain words.now × Puts (λ octets. decode_of (bytes_of words.now) ≡ Ok octets) «data».old.items «data».new.items) }
-    ensures refused { IfErr result (λ e. e ≢ Memory → HasNone (λ octets. ArePlain words.now × (decode_of (bytes_of words.now) ≡ Ok octets))) }
+    ensures put { OnOk result (ArePlain words.now ×
+        Puts (λ octets. decode_of (bytes_of words.now) ≡ Ok octets) «data».old.items «data».new.items) }
+    ensures refused { IfErr result
+        (λ e. e ≢ Memory → HasNone (λ octets. ArePlain words.now × (decode_of (bytes_of words.now) ≡ Ok octets))) }
 {
     let bytes = hex_bytes(alloc, words)?;
     data.extend_from_slice(bytes.as_slice())?;
@@ -115,7 +118,8 @@ pub(crate) fn put_rest(
     origin: Option<&Name>,
     data: &mut Vec<u8>,
 ) -> Result<(), TextError>
-    ensures put { OnOk result (Puts (IsRest (option_copied origin.entry) rest words.now) «data».old.items «data».new.items) }
+    ensures put { OnOk result (Puts (IsRest (option_copied origin.entry) rest words.now) «data».old.items
+        «data».new.items) }
     ensures refused { IfErr result (λ e. e ≢ Memory → HasNone (IsRest (option_copied origin.entry) rest words.now)) }
 {
     match (rest, words.first()) {

@@ -662,8 +662,10 @@ pub fn row_of(number: u16) -> Option<&'static Row>
 
 /// The number of a row with a mnemonic, the letters of which may have any case.
 fn number_named(table: &[Row], mnemonic: &[u8]) -> Option<u16>
-    ensures named { IfSome result (λ number. Any (λ row. (row.number ≡ number) × SameLetters row.mnemonic.now mnemonic.now) table.now) }
-    ensures none { IfNone result (HasNone (λ number. Any (λ row. (row.number ≡ number) × SameLetters row.mnemonic.now mnemonic.now) table.now)) }
+    ensures named { IfSome result (λ number.
+        Any (λ row. (row.number ≡ number) × SameLetters row.mnemonic.now mnemonic.now) table.now) }
+    ensures none { IfNone result (HasNone
+        (λ number. Any (λ row. (row.number ≡ number) × SameLetters row.mnemonic.now mnemonic.now) table.now)) }
 {
     let row = table.iter().find(|row| row.mnemonic.as_bytes().eq_ignore_ascii_case(mnemonic))?;
     Some(row.number)

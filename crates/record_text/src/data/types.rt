@@ -139,7 +139,8 @@ pub(crate) fn bitmap_len(numbers: &[u16]) -> u16
 /// The number of the type that a word is, by its name or by the number alone.
 fn type_or_number(word: &Word<'_>) -> Result<u16, TextError>
     ensures spelled { IfOk result (λ number. (word.now.quoted ≡ false) × SpellsLowType word.now.bytes.now number) }
-    ensures refused { OnErr result (HasNone (λ number. (word.now.quoted ≡ false) × SpellsLowType word.now.bytes.now number × (number < 2 ^ 16))) }
+    ensures refused { OnErr result
+        (HasNone (λ number. (word.now.quoted ≡ false) × SpellsLowType word.now.bytes.now number × (number < 2 ^ 16))) }
 {
     match type_of(word) {
         Ok(found) => Ok(found.value()),
@@ -152,8 +153,11 @@ fn type_or_number(word: &Word<'_>) -> Result<u16, TextError>
 
 /// The number of a type from 1 to 127 that a word is.
 fn low_type(word: &Word<'_>) -> Result<u16, TextError>
-    ensures spelled { IfOk result (λ number. (word.now.quoted ≡ false) × SpellsLowType word.now.bytes.now number × (0 < number) × (number < 128)) }
-    ensures refused { OnErr result (HasNone (λ number. (word.now.quoted ≡ false) × SpellsLowType word.now.bytes.now number × (0 < number) × (number < 128))) }
+    ensures spelled { IfOk result (λ number. (word.now.quoted ≡ false) × SpellsLowType word.now.bytes.now number ×
+        (0 < number) × (number < 128)) }
+    ensures refused { OnErr result
+        (HasNone (λ number. (word.now.quoted ≡ false) × SpellsLowType word.now.bytes.now number × (0 < number) ×
+        (number < 128))) }
 {
     let number = type_or_number(word)?;
     if number == 0 || number > 127 {

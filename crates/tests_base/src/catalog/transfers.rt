@@ -115,8 +115,8 @@ fn catalog(alloc: Global) -> Result<Catalog<NoSigner, InMemoryZoneHandler>, Fail
 const TRANSFER: [u8; 29] =
     *b"\x12\x34\x00\x00\x00\x01\x00\x00\x00\x00\x00\x00\x07example\x03com\x00\x00\xfc\x00\x01";
 
-/// What a sink has that fails once it has so many replies: how many replies and failures, what the server told of them, and how many
-/// answers it told.
+/// What a sink has that fails once it has so many replies: how many replies and failures, what the server told of them,
+/// and how many answers it told.
 fn failed_at(
     alloc: Global,
     catalog: &mut Catalog<NoSigner, InMemoryZoneHandler>,

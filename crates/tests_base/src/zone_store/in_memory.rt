@@ -100,7 +100,8 @@ fn answered<H: ZoneHandler>(alloc: Global, handler: &H, bytes: &[u8]) -> Result<
     Ok(told)
 }
 
-/// The same for a name that is there, for one with other records, and for one that is not there; and the word for the SOA.
+/// The same for a name that is there, for one with other records, and for one that is not there; and the word for the
+/// SOA.
 fn all_answered<H: ZoneHandler>(alloc: Global, handler: &H) -> Result<([Word; 3], Word), Fail> {
     let words = [
         answered(alloc, handler, &QUERY)?,

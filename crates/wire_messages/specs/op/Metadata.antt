@@ -1,5 +1,6 @@
 -- The header of a message but for its counts (RFC 1035 section 4.1.1).
 use Rattle.std.specs.Prelude.{ℕ, false}
+use Rattle.wire_messages.specs.Numbers.{code_no_error}
 use Rattle.wire_messages.specs.declared.op.header.MessageType.{MessageType}
 use Rattle.wire_messages.specs.declared.op.header.MessageType.TheVariants.{Response}
 use Rattle.wire_messages.specs.declared.op.header.Metadata.{Metadata}
@@ -16,7 +17,7 @@ bare_metadata id message_type op_code = record {
   recursion_available = false;
   authentic_data = false;
   checking_disabled = false;
-  response_code = 0;
+  response_code = code_no_error;
 }
 
 -- a reply has the request's id, kind, RD and CD

@@ -2,6 +2,7 @@
 use Rattle.std.specs.Prelude.{◌≡◌, ℕ, ◌/◌, ◌%◌, ◌<◌, ◌^◌, List, [], ◌∷◌, ◌++◌, length}
 use Rattle.std.specs.List.{AllByRecursion, flat_map}
 use Rattle.std.specs.Int.{w16, w32, to_be_bytes}
+use Rattle.wire_messages.specs.Numbers.{type_a, type_aaaa, type_cname, type_mx, type_ns, type_null, type_opt, type_ptr, type_soa, type_tsig, type_txt}
 use Rattle.wire_messages.specs.declared.op.edns.EdnsOption.{EdnsOption}
 use Rattle.wire_messages.specs.declared.rr.rdata.SOA.{SOA}
 use Rattle.wire_messages.specs.declared.rr.rdata.RData.{RData}
@@ -38,16 +39,16 @@ tsig_fields t = to_be_bytes w16 (t.time / 2 ^ 32) ++ to_be_bytes w32 (t.time % 2
 
 -- the type of data
 abbrev pub type_of : RData → ℕ
-type_of (rdata.A address) = 1
-type_of (rdata.AAAA address) = 28
-type_of (rdata.NS name) = 2
-type_of (rdata.CNAME name) = 5
-type_of (rdata.PTR name) = 12
-type_of (rdata.MX exchange) = 15
-type_of (rdata.SOA soa) = 6
-type_of (rdata.TXT strings) = 16
-type_of (rdata.OPT options) = 41
-type_of (rdata.TSIG signature) = 250
-type_of (rdata.NULL octets) = 10
+type_of (rdata.A address) = type_a
+type_of (rdata.AAAA address) = type_aaaa
+type_of (rdata.NS name) = type_ns
+type_of (rdata.CNAME name) = type_cname
+type_of (rdata.PTR name) = type_ptr
+type_of (rdata.MX exchange) = type_mx
+type_of (rdata.SOA soa) = type_soa
+type_of (rdata.TXT strings) = type_txt
+type_of (rdata.OPT options) = type_opt
+type_of (rdata.TSIG signature) = type_tsig
+type_of (rdata.NULL octets) = type_null
 type_of (rdata.Update0 code) = code
 type_of (rdata.Unknown code octets) = code

@@ -3,7 +3,7 @@ use Rattle.std.specs.Prelude.{◌≡◌, ℕ, List, ◌++◌}
 use Rattle.std.specs.Hash as fed
 use Rattle.std.specs.declared.cmp.Ordering.{Ordering}
 use Rattle.std.specs.Ordering.{nat_cmp, ordering_then}
-use Rattle.wire_names.specs.rr.domain.NameHash.{name_hash_input}
+use Rattle.wire_names.specs.representation.NameHash.{name_hash_input}
 use Rattle.wire_names.specs.rr.domain.NameOrder.{SameName, name_cmp}
 use Rattle.wire_messages.specs.declared.rr.rr_key.RrKey.{RrKey}
 

@@ -39,5 +39,6 @@ pub fn edns_comparisons()
 
 /// `==` on signatures compares them as records of their type: owner name, class and data, names in any letter case.
 pub fn signature_comparisons()
-    ensures { (a b : ResourceRecord Signature) → IsTrue (⟦<Record<TSIG> as PartialEq>⟧.eq a b) ↔ SameRecord (tsig_record a) (tsig_record b) }
+    ensures { (a b : ResourceRecord Signature) → IsTrue (⟦<Record<TSIG> as PartialEq>⟧.eq a b) ↔
+        SameRecord (tsig_record a) (tsig_record b) }
 {}

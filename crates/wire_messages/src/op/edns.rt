@@ -56,7 +56,14 @@ impl Model for Edns {
 
     ghost Value = { EdnsFields };
 
-    ghost view = { λ e. record { max_payload = e.max_payload; rcode_high = e.rcode_high; version = e.version; dnssec_ok = e.dnssec_ok; reserved_flags = e.reserved_flags; options = e.options } };
+    ghost view = { λ e. record {
+      max_payload = e.max_payload;
+      rcode_high = e.rcode_high;
+      version = e.version;
+      dnssec_ok = e.dnssec_ok;
+      reserved_flags = e.reserved_flags;
+      options = e.options;
+    } };
 
     ghost invariant = { λ e. e.reserved_flags < 2 ^ 15 };
 }
@@ -64,7 +71,15 @@ impl Model for Edns {
 impl Edns {
     /// Payload 512, version 0, no flag, no option. It needs no memory.
     pub fn new(alloc: Global) -> Edns
-        ensures { result ≡ record { max_payload = 512; rcode_high = 0; version = 0; dnssec_ok = false; reserved_flags = 0; options = [] } }
+        ensures { result ≡ record {
+          max_payload = 512;
+          rcode_high = 0;
+          version = 0;
+          dnssec_ok = false;
+          reserved_flags =
+              0;
+          options = [];
+        } }
     {
         Edns {
             max_payload: 512,
@@ -78,7 +93,14 @@ impl Edns {
 
     /// What an OPT record of this class, this TTL and these options says (RFC 6891 sections 6.1.2 and 6.1.3).
     pub fn from_opt(dns_class: DNSClass, ttl: u32, options: Items<EdnsOption>) -> Edns
-        ensures { result ≡ record { max_payload = dns_class; rcode_high = ttl / 2 ^ 24; version = ttl / 2 ^ 16 % 256; dnssec_ok = ttl / 2 ^ 15 % 2 == 1; reserved_flags = ttl % 2 ^ 15; options = options } }
+        ensures { result ≡ record {
+          max_payload = dns_class;
+          rcode_high = ttl / 2 ^ 24;
+          version = ttl / 2 ^ 16 % 256;
+          dnssec_ok = ttl / 2 ^ 15 % 2 == 1;
+          reserved_flags = ttl % 2 ^ 15;
+          options = options;
+        } }
     {
         Edns {
             max_payload: dns_class.value(),
@@ -128,7 +150,8 @@ impl Edns {
 
     /// The TTL field of the OPT record: high code, version, DO, and the flags behind it (RFC 6891 section 6.1.3).
     pub fn ttl(&self) -> u32
-        ensures fields { result ≡ self.now.rcode_high * 2 ^ 24 + self.now.version * 2 ^ 16 + flag self.now.dnssec_ok 15 + self.now.reserved_flags }
+        ensures fields { result ≡ self.now.rcode_high * 2 ^ 24 + self.now.version * 2 ^ 16 + flag self.now.dnssec_ok
+            15 + self.now.reserved_flags }
         ensures in_range { IsEdnsInRange self.now }
     {
         let high = u32::from(self.rcode_high()) * 0x100_0000 + u32::from(self.version()) * 0x1_0000;

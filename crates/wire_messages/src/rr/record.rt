@@ -44,7 +44,8 @@ pub struct Record<R = RData> {
 
 impl<R: Clone> Clone for Record<R> {
     // The copy is the record itself, where a clone of its data is the data.
-    ghost is_clone = { λ source copy. (R.is_clone source.rdata copy.rdata → copy.rdata ≡ source.rdata) → copy ≡ source };
+    ghost is_clone = { λ source copy. (R.is_clone source.rdata copy.rdata → copy.rdata ≡ source.rdata) →
+        copy ≡ source };
 
     fn clone(&self) -> Result<Record<R>, AllocError> {
         Ok(Record {

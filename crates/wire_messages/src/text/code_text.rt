@@ -114,7 +114,8 @@ fn text_of(mnemonics: &[(u16, &'static str)], number: u16) -> Option<&'static st
 fn number_of(mnemonics: &[(u16, &'static str)], text: &str) -> Option<u16>
     ensures { MatchOption result
         (All (λ e. ¬ (map to_ascii_lowercase e.1.now ≡ map to_ascii_lowercase text.now)) mnemonics.now)
-        (λ number. Any (λ e. (e.0 ≡ number) × (map to_ascii_lowercase e.1.now ≡ map to_ascii_lowercase text.now)) mnemonics.now) }
+        (λ number. Any (λ e. (e.0 ≡ number) × (map to_ascii_lowercase e.1.now ≡ map to_ascii_lowercase text.now))
+        mnemonics.now) }
 {
     let (number, _) = mnemonics
         .iter()

@@ -16,7 +16,7 @@ pub struct ShortOctets {
 
 impl Model for ShortOctets {
     ghost use Rattle.std.specs.Prelude.{List, ℕ};
-    ghost use Rattle.wire_names.specs.rr.domain.NameBytes.{wire_bytes};
+    ghost use Rattle.wire_names.specs.representation.NameBytes.{wire_bytes};
 
     ghost Value = { List ℕ };
 

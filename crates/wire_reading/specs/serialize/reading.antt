@@ -1,5 +1,4 @@
 -- What is read of bytes, and the first fault of those that cannot be read.
-pub mod KnownNames
 pub mod MessageFaults
 pub mod MessageReading
 pub mod OptReading

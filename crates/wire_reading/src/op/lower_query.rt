@@ -93,7 +93,8 @@ impl LowerQuery {
         decoder: &mut BinDecoder<'_>,
     ) -> Result<(), DecodeError>
         ensures exact { GivesSeenBy (λ _. self.new) result decoder.old decoder.new question }
-        ensures err { OnErr result (self.new ≡ record { name = record { labels = []; is_fqdn = true }; query_type = 0; query_class = 0 }) }
+        ensures err { OnErr result (self.new ≡ record
+            { name = record { labels = []; is_fqdn = true }; query_type = 0; query_class = 0 }) }
     {
         match read_parts(alloc, decoder, &mut self.original, &mut self.first_key.name) {
             Ok(()) => Ok(()),

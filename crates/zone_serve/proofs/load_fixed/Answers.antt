@@ -1,7 +1,7 @@
 use Rattle.std.proofs.Common.{◌∙◌, ap, option_map}
 use Rattle.std.specs.Global.{Global}
 use Rattle.std.specs.declared.rc.Rc.{Rc}
-use Rattle.hickory_store.specs.BlockAnswers.{Blocklist}
+use Rattle.hickory_store.specs.blocklist.BlockAnswers.{Blocklist}
 use Rattle.zone_serve.proofs.Loading.{copied_map, of_files}
 use Rattle.zone_serve.proofs.load_fixed.Goals as goal
 

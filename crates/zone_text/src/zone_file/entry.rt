@@ -59,8 +59,8 @@ pub(crate) struct Front {
     pub(crate) place: usize,
 }
 
-/// The TTL of a record in seconds: its own, else that of the last `$TTL` (RFC 2308 section 4), else that of the record before (RFC 1035
-/// section 5.1), else the last number of a zone's start (RFC 2308 section 4).
+/// The TTL of a record in seconds: its own, else that of the last `$TTL` (RFC 2308 section 4), else that of the record
+/// before (RFC 1035 section 5.1), else the last number of a zone's start (RFC 2308 section 4).
 fn ttl_in_force(
     own: Option<u32>,
     default_ttl: Option<u32>,
@@ -145,7 +145,8 @@ fn ttl_and_behind<'a, 'w>(
     words: &'w [Word<'a>],
 ) -> Result<(Option<u32>, &'w [Word<'a>]), EntryError>
     ensures ttl { IfOk result (λ found. MayBeginWithTtl words.now found.0 found.1.now) }
-    ensures none { IfOk result (λ found. IfNone found.0 ((seconds : ℕ) → HasNone (BeginsWith (λ word. IsTtl word seconds) words.now))) }
+    ensures none { IfOk result (λ found.
+        IfNone found.0 ((seconds : ℕ) → HasNone (BeginsWith (λ word. IsTtl word seconds) words.now))) }
     ensures refused { IfErr result (λ e. e ≢ Memory → BeginsWithNoFront words.now) }
 {
     let Some((word, behind)) = words.split_first() else {
@@ -161,9 +162,12 @@ fn ttl_and_behind<'a, 'w>(
 pub(crate) fn ttl_and_class<'a, 'w>(
     words: &'w [Word<'a>],
 ) -> Result<(Option<u32>, &'w [Word<'a>]), EntryError>
-    ensures timed { IfOk result (λ found. (front : List WordOf) × (words.now ≡ front ++ found.1.now) × AreTtlAndClass front found.0) }
-    ensures most { IfOk result (λ found. (own : Option ℕ) (number : ℕ) → (behind : List WordOf) → IsFrontOf words.now own number behind → (own ≡ found.0) × BeginsWith (IsTypeWord number) found.1.now behind) }
-    ensures refused { IfErr result (λ e. e ≢ Memory → (own : Option ℕ) (number : ℕ) → HasNone (IsFrontOf words.now own number)) }
+    ensures timed { IfOk result (λ found. (front : List WordOf) × (words.now ≡ front ++ found.1.now) ×
+        AreTtlAndClass front found.0) }
+    ensures most { IfOk result (λ found. (own : Option ℕ) (number : ℕ) → (behind : List WordOf) →
+        IsFrontOf words.now own number behind → (own ≡ found.0) × BeginsWith (IsTypeWord number) found.1.now behind) }
+    ensures refused { IfErr result (λ e. e ≢ Memory → (own : Option ℕ) (number : ℕ) →
+        HasNone (IsFrontOf words.now own number)) }
 {
     let (ttl, fields) = ttl_and_behind(words)?;
     let Some(behind) = behind_class(fields) else {
@@ -211,7 +215,8 @@ fn type_fault(word: &Word<'_>, fault: EntryError) -> EntryError {
 pub(crate) fn zone_type(word: &Word<'_>) -> Result<RecordType, EntryError>
     ensures typed { IfOk result (λ number. IsTypeWord number word.now) }
     ensures stored { IfOk result IsZoneType }
-    ensures refused { IfErr result (λ e. e ≢ Memory → (number : ℕ) → IsTypeWord number word.now → IsZoneType number → ⊥) }
+    ensures refused { IfErr result (λ e. e ≢ Memory → (number : ℕ) → IsTypeWord number word.now → IsZoneType number →
+        ⊥) }
 {
     let record_type = match type_of(word) {
         Ok(record_type) => record_type,
@@ -236,7 +241,8 @@ fn zone_data(
     ensures fits { IfOk result (λ rdata. data_len rdata ≤ 65535) }
     ensures spelled { IfOk result (SpellsData (Some origin.now) record_type words.now) }
     ensures some { OnOk result (MayBeData record_type words.now) }
-    ensures refused { IfErr result (λ e. e ≢ Memory → (rdata : RDataOf) → SpellsData (Some origin.now) record_type words.now rdata → MayBeData record_type words.now → ⊥) }
+    ensures refused { IfErr result (λ e. e ≢ Memory → (rdata : RDataOf) →
+        SpellsData (Some origin.now) record_type words.now rdata → MayBeData record_type words.now → ⊥) }
 {
     let rdata = data_of_words(alloc, record_type, words, end, Some(origin))?;
     if has_octets(record_type) && are_no_octets(words) {
@@ -256,8 +262,8 @@ fn last_owner(first: &Word<'_>, records: &[Record]) -> Result<Name, EntryError>
     }
 }
 
-/// The record of this owner name and of what stands between it and the data, which these fields are. `first` is the field that the entry begins with,
-/// and `end` the place behind all fields.
+/// The record of this owner name and of what stands between it and the data, which these fields are. `first` is the
+/// field that the entry begins with, and `end` the place behind all fields.
 pub(crate) fn typed_record(
     alloc: Global,
     first: &Word<'_>,
@@ -271,7 +277,8 @@ pub(crate) fn typed_record(
     requires stored { IsZoneType front.now.record_type }
     ensures named { IfOk result (λ r. r.name ≡ name) }
     ensures typed { IfOk result (IsTyped before.now front.now.ttl front.now.record_type data.now) }
-    ensures refused { IfErr result (λ e. e ≢ Memory → HasNone (IsTyped before.now front.now.ttl front.now.record_type data.now)) }
+    ensures refused { IfErr result
+        (λ e. e ≢ Memory → HasNone (IsTyped before.now front.now.ttl front.now.record_type data.now)) }
 {
     let rdata = zone_data(
         alloc,
@@ -295,8 +302,8 @@ pub(crate) fn typed_record(
     })
 }
 
-/// The record of this owner name that stands behind it: TTL and class, where they are there, type and data. `first` is the field that the entry begins
-/// with, and `end` the place behind all fields.
+/// The record of this owner name that stands behind it: TTL and class, where they are there, type and data. `first` is
+/// the field that the entry begins with, and `end` the place behind all fields.
 fn record_behind(
     alloc: Global,
     first: &Word<'_>,
@@ -357,7 +364,8 @@ fn named_record(
 ) -> Result<Record, EntryError>
     requires { IsDirective owner.now → ⊥ }
     ensures entry { IfOk result (IsRecordEntry before.now false (owner.now ∷ behind.now)) }
-    ensures refused { IfErr result (λ e. e ≢ Memory → HasNone (IsRecordEntry before.now false (owner.now ∷ behind.now))) }
+    ensures refused { IfErr result
+        (λ e. e ≢ Memory → HasNone (IsRecordEntry before.now false (owner.now ∷ behind.now))) }
 {
     let name = absolute_name(alloc, owner, Some(&before.origin))?;
     record_behind(alloc, owner, name, behind, end, before)
@@ -420,7 +428,8 @@ fn is_directive(word: &Word<'_>) -> bool
     }
 }
 
-/// The entry of which these are the fields, whose line begins with a blank or does not. `end` is the place behind the fields.
+/// The entry of which these are the fields, whose line begins with a blank or does not. `end` is the place behind the
+/// fields.
 pub(crate) fn read_entry(
     alloc: Global,
     begins_blank: bool,

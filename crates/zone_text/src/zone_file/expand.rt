@@ -13,7 +13,8 @@ use std::alloc::{AllocError, Global};
 use std::format;
 use text_words::Word;
 
-/// Puts the number in the form that stands behind `${`, and tells what stands behind the `}`. `None` where that is no form, or the number is none of 31 bits.
+/// Puts the number in the form that stands behind `${`, and tells what stands behind the `}`. `None` where that is no
+/// form, or the number is none of 31 bits.
 fn put_formed<'a>(
     alloc: Global,
     number: u32,
@@ -21,7 +22,11 @@ fn put_formed<'a>(
     bytes: &mut Vec<u8>,
 ) -> Result<Option<&'a [u8]>, AllocError>
     requires { number < 2 ^ 31 }
-    ensures put { IfOk result (λ found. MatchOption found (formed number (form_of (part_before 125 text.now)) (part_behind 125 text.now) ≡ None) (λ behind. (own : List ℕ) × (formed number (form_of (part_before 125 text.now)) (part_behind 125 text.now) ≡ Some (own, behind.now)) × (bytes.new.items ≡ bytes.old.items ++ own) × (length behind.now < length text.now))) }
+    ensures put { IfOk result (λ found.
+        MatchOption found (formed number (form_of (part_before 125 text.now)) (part_behind 125 text.now) ≡ None)
+        (λ behind. (own : List ℕ) × (formed number (form_of (part_before 125 text.now))
+        (part_behind 125 text.now) ≡ Some (own, behind.now)) × (bytes.new.items ≡ bytes.old.items ++ own) ×
+        (length behind.now < length text.now))) }
 {
     let (front, behind) = parts(text, b'}');
     let Some(form) = form_of(front) else {
@@ -45,7 +50,9 @@ fn put_dollar<'a>(
     bytes: &mut Vec<u8>,
 ) -> Result<Option<&'a [u8]>, AllocError>
     requires { number < 2 ^ 31 }
-    ensures put { IfOk result (λ found. MatchOption found (dollar number text.now ≡ None) (λ behind. (own : List ℕ) × (dollar number text.now ≡ Some (own, behind.now)) × (bytes.new.items ≡ bytes.old.items ++ own) × (length behind.now < length text.now + 1))) }
+    ensures put { IfOk result (λ found. MatchOption found (dollar number text.now ≡ None) (λ behind. (own : List ℕ) ×
+        (dollar number text.now ≡ Some (own, behind.now)) × (bytes.new.items ≡ bytes.old.items ++ own) ×
+        (length behind.now < length text.now + 1))) }
 {
     match text {
         [b'$', behind @ ..] => {
@@ -66,7 +73,8 @@ fn put_escaped<'a>(
     text: &'a [u8],
     bytes: &mut Vec<u8>,
 ) -> Result<&'a [u8], AllocError>
-    ensures put { IfOk result (λ behind. (own : List ℕ) × (escaped quoted text.now ≡ Some (own, behind.now)) × (bytes.new.items ≡ bytes.old.items ++ own) × (length behind.now < length text.now + 1)) }
+    ensures put { IfOk result (λ behind. (own : List ℕ) × (escaped quoted text.now ≡ Some (own, behind.now)) ×
+        (bytes.new.items ≡ bytes.old.items ++ own) × (length behind.now < length text.now + 1)) }
 {
     match text {
         [] => {
@@ -92,7 +100,9 @@ fn put_front<'a>(
     bytes: &mut Vec<u8>,
 ) -> Result<Option<&'a [u8]>, AllocError>
     requires { number < 2 ^ 31 }
-    ensures put { IfOk result (λ found. MatchOption found (front_of quoted number text.now ≡ None) (λ behind. (own : List ℕ) × (front_of quoted number text.now ≡ Some (own, behind.now)) × (bytes.new.items ≡ bytes.old.items ++ own) × (length behind.now < length text.now))) }
+    ensures put { IfOk result (λ found. MatchOption found (front_of quoted number text.now ≡ None)
+        (λ behind. (own : List ℕ) × (front_of quoted number text.now ≡ Some (own, behind.now)) ×
+        (bytes.new.items ≡ bytes.old.items ++ own) × (length behind.now < length text.now))) }
 {
     match text {
         [] => Ok(None),

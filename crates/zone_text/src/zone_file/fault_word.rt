@@ -48,8 +48,8 @@ impl FaultWord {
     }
 }
 
-/// A colon and the field in quotes, with `..` behind where it is cut; bytes that are no visible ASCII are a backslash and three decimal digits.
-/// Nothing, where there is no field.
+/// A colon and the field in quotes, with `..` behind where it is cut; bytes that are no visible ASCII are a backslash
+/// and three decimal digits. Nothing, where there is no field.
 impl fmt::Display for FaultWord {
     fn fmt<W: fmt::Write>(&self, f: &mut fmt::Formatter<W>) -> fmt::Result {
         if self.len == 0 {

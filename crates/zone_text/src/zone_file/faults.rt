@@ -57,14 +57,16 @@ fn told_in_file(e: EntryError, text: &[u8]) -> Result<ZoneFileError, AllocError>
 
 /// The faults of a zone file, in their order, at most ten; none where it has none.
 ///
-/// Each is told of an entry that is none behind what the entries before it leave that are some; one that is refused leaves what it was left. So the first
-/// is the one that [`read_zone_bytes`](crate::read_zone_bytes) tells, and one behind it may be there for it alone, as where a `$ORIGIN` is refused.
+/// Each is told of an entry that is none behind what the entries before it leave that are some; one that is refused
+/// leaves what it was left. So the first is the one that [`read_zone_bytes`](crate::read_zone_bytes) tells, and one
+/// behind it may be there for it alone, as where a `$ORIGIN` is refused.
 pub fn zone_file_faults(
     alloc: Global,
     text: &[u8],
     origin: &Name,
 ) -> Result<Vec<ZoneFileError>, AllocError>
-    ensures taken { IfOk result (λ faults. (end : ℕ) × (last : BeforeOf) × AreTaken origin.now text.now end last faults.items × ((length text.now ≤ end) ⊎ (10 ≤ length faults.items))) }
+    ensures taken { IfOk result (λ faults. (end : ℕ) × (last : BeforeOf) ×
+        AreTaken origin.now text.now end last faults.items × ((length text.now ≤ end) ⊎ (10 ≤ length faults.items))) }
     ensures most { IfOk result (λ faults. length faults.items ≤ 10) }
     ensures first { IfOk result (λ faults. IfSome (slice_get faults.items 0) (IsFirstFault origin.now text.now)) }
 {

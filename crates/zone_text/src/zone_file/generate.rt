@@ -4,7 +4,7 @@ ghost use Rattle.std.specs.Prelude.{◌≡◌, ◌≢◌, ◌^◌, ◌+◌, ◌*
 ghost use Rattle.record_text.specs.RecordText.{HasNone};
 ghost use Rattle.text_words.specs.declared.words.Word.{Word as WordOf};
 ghost use Rattle.zone_text.specs.Numbered.{Reaches};
-ghost use Rattle.zone_text.specs.ZoneFiles.{AreEach, HasWordsOf, IsGenerated, IsNumberedOwner, IsNumberedRecord, IsRangeWord, IsZoneType};
+ghost use Rattle.zone_text.specs.ZoneFiles.{AreEach, HasWordsOf, IsGenerated, IsNumberedOwner, IsNumberedRecord, IsRangeWord, IsZoneType, template};
 ghost use Rattle.zone_text.specs.declared.zone_file.fault.EntryError.TheVariants.{Memory};
 
 use crate::error::ZoneFileFault;
@@ -73,8 +73,11 @@ fn numbered_record(
 ) -> Result<Record, EntryError>
     requires small { number < 2 ^ 31 }
     requires stored { IsZoneType front.now.record_type }
-    ensures record_is { IfOk result (IsNumberedRecord before.now lhs.now front.now.ttl front.now.record_type rhs.now number) }
-    ensures refused { IfErr result (λ e. e ≢ Memory → HasNone (IsNumberedRecord before.now lhs.now front.now.ttl front.now.record_type rhs.now number)) }
+    ensures record_is { IfOk result
+        (IsNumberedRecord before.now (template lhs.now front.now.ttl front.now.record_type rhs.now) number) }
+    ensures refused { IfErr result
+        (λ e. e ≢ Memory → HasNone (IsNumberedRecord before.now
+        (template lhs.now front.now.ttl front.now.record_type rhs.now) number)) }
 {
     // Words stand in a text in one way, and the same words are the same service parameters.
     words_stand_once();
@@ -102,8 +105,12 @@ fn numbered_records(
     requires step { range.now.step < 2 ^ 31 }
     requires some { 0 < range.now.step }
     requires stored { IsZoneType front.now.record_type }
-    ensures each { IfOk result (λ records. (count : ℕ) × Reaches range.now count × AreEach (λ k. IsNumberedRecord before.now lhs.now front.now.ttl front.now.record_type rhs.now (range.now.first + k * range.now.step)) count records) }
-    ensures refused { IfErr result (λ e. e ≢ Memory → (count : ℕ) → Reaches range.now count → HasNone (AreEach (λ k. IsNumberedRecord before.now lhs.now front.now.ttl front.now.record_type rhs.now (range.now.first + k * range.now.step)) count)) }
+    ensures each { IfOk result (λ records. (count : ℕ) × Reaches range.now count ×
+        AreEach (λ k. IsNumberedRecord before.now (template lhs.now front.now.ttl front.now.record_type rhs.now)
+        (range.now.first + k * range.now.step)) count records) }
+    ensures refused { IfErr result (λ e. e ≢ Memory → (count : ℕ) → Reaches range.now count →
+        HasNone (AreEach (λ k. IsNumberedRecord before.now
+        (template lhs.now front.now.ttl front.now.record_type rhs.now) (range.now.first + k * range.now.step)) count)) }
 {
     let mut records = Items::new(alloc);
     let mut number = range.first;
@@ -137,7 +144,8 @@ fn range_and_owner<'a, 'w>(
     end: usize,
 ) -> Result<(&'w Word<'a>, &'w Word<'a>, &'w [Word<'a>]), EntryError>
     ensures parts { IfOk result (λ parts. behind.now ≡ parts.0.now ∷ parts.1.now ∷ parts.2.now) }
-    ensures refused { OnErr result ((range owner : WordOf) (fields : List WordOf) → behind.now ≡ range ∷ owner ∷ fields → ⊥) }
+    ensures refused { OnErr result ((range owner : WordOf) (fields : List WordOf) →
+        behind.now ≡ range ∷ owner ∷ fields → ⊥) }
 {
     match behind {
         [range, owner, fields @ ..] => Ok((range, owner, fields)),

@@ -66,7 +66,8 @@ fn spelled(alloc: Global, word: &Word<'_>) -> Result<Vec<u8>, EntryError>
     Ok(bytes)
 }
 
-/// The name of a file, the origin of what stands in it, and the place of the name, of the fields behind `$INCLUDE`. `end` is the place behind them.
+/// The name of a file, the origin of what stands in it, and the place of the name, of the fields behind `$INCLUDE`.
+/// `end` is the place behind them.
 fn named_file(
     alloc: Global,
     behind: &[Word<'_>],
@@ -74,7 +75,8 @@ fn named_file(
     before: &Before,
 ) -> Result<(Vec<u8>, Name, usize), EntryError>
     ensures named { IfOk result (λ found. IsNamedFile before.now behind.now found.0.items found.1) }
-    ensures refused { IfErr result (λ e. e ≢ Memory → (file : List ℕ) → HasNone (IsNamedFile before.now behind.now file)) }
+    ensures refused { IfErr result (λ e. e ≢ Memory → (file : List ℕ) →
+        HasNone (IsNamedFile before.now behind.now file)) }
 {
     match behind {
         [] => Err(EntryError::from(fault_at(end, TextFault::MissingField))),
@@ -105,8 +107,10 @@ fn include_of(
     end: usize,
     before: &Before,
 ) -> Result<Option<(Vec<u8>, Name, usize)>, EntryError>
-    ensures included { IfOk result (λ found. IfSome found (λ found. IsInclude before.now words.now found.0.items found.1)) }
-    ensures other { IfOk result (λ found. IfNone found ((file : List ℕ) → HasNone (IsInclude before.now words.now file))) }
+    ensures included { IfOk result
+        (λ found. IfSome found (λ found. IsInclude before.now words.now found.0.items found.1)) }
+    ensures other { IfOk result (λ found.
+        IfNone found ((file : List ℕ) → HasNone (IsInclude before.now words.now file))) }
     ensures refused { IfErr result (λ e. e ≢ Memory → (file : List ℕ) → HasNone (IsInclude before.now words.now file)) }
 {
     let Some((directive, behind)) = words.split_first() else {
@@ -119,7 +123,8 @@ fn include_of(
     Ok(Some(found))
 }
 
-/// The directive that includes a file, from a place on where no entry stands, for this reason, which is no want of memory.
+/// The directive that includes a file, from a place on where no entry stands, for this reason, which is no want of
+/// memory.
 fn include_there(
     alloc: Global,
     text: &[u8],
@@ -133,7 +138,8 @@ fn include_there(
     ensures on { IfOk result (λ found. place ≤ found.at) }
     ensures in_entry { IfOk result (λ found. found.at ≤ found.end) }
     ensures within { IfOk result (λ found. found.end ≤ length text.now) }
-    ensures included { IfOk result (λ found. IsIncludeFrom text.now place before.now found.file.items found.origin found.end) }
+    ensures included { IfOk result
+        (λ found. IsIncludeFrom text.now place before.now found.file.items found.origin found.end) }
     ensures fault { IfErr result (IsEntryFault text.now place before.now) }
     ensures none { IfErr result (λ e. e ≢ Memory → IncludesNone text.now place before.now) }
 {
@@ -175,7 +181,8 @@ fn include_at(
     ensures on { IfOk result (λ found. place ≤ found.at) }
     ensures in_entry { IfOk result (λ found. found.at ≤ found.end) }
     ensures within { IfOk result (λ found. found.end ≤ length text.now) }
-    ensures included { IfOk result (λ found. IsIncludeFrom text.now place before.now found.file.items found.origin found.end) }
+    ensures included { IfOk result
+        (λ found. IsIncludeFrom text.now place before.now found.file.items found.origin found.end) }
     ensures fault { IfErr result (IsEntryFault text.now place before.now) }
     ensures none { IfErr result (λ e. e ≢ Memory → IncludesNone text.now place before.now) }
 {
@@ -218,7 +225,8 @@ fn told_at(
     fault: ZoneFileFault,
 ) -> IncludedError
     requires { place ≤ length text.now }
-    ensures { (result.error ≡ told.Memory) ⊎ ((result.file ≡ name.now) × IsToldOf text.now (At place fault) result.error) }
+    ensures { (result.error ≡ told.Memory) ⊎
+        ((result.file ≡ name.now) × IsToldOf text.now (At place fault) result.error) }
 {
     told_in(alloc, name, text, EntryError::At { place, fault })
 }
@@ -232,7 +240,8 @@ fn refused_at(
     why: FileRefusal,
 ) -> IncludedError
     requires { place ≤ length text.now }
-    ensures { (result.error ≡ told.Memory) ⊎ ((why ≢ NoMemory) × (result.file ≡ name.now) × IsToldOf text.now (At place (FileRefused why)) result.error) }
+    ensures { (result.error ≡ told.Memory) ⊎
+        ((why ≢ NoMemory) × (result.file ≡ name.now) × IsToldOf text.now (At place (FileRefused why)) result.error) }
 {
     match why {
         FileRefusal::Memory => no_memory(alloc),
@@ -260,8 +269,12 @@ fn take_file<O: FileOpener>(
     requires records { All IsZoneRecord before.old.records }
     ensures on { IfOk result (λ next. place < next) }
     ensures records { OnOk result (All IsZoneRecord before.new.records) }
-    ensures taken { IfOk result (λ next. (first : ℕ) (start : BeforeOf) → AreIncluded (O.opens files.now) levels text.now first start place before.old → AreIncluded (O.opens files.now) levels text.now first start next before.new) }
-    ensures fault { IfErr result (λ e. (start : BeforeOf) → IsFrontWithFiles (O.opens files.now) levels text.now start place before.old → IsFaultWithFiles (O.opens files.now) (O.refuses files.now) levels name.now text.now start e.file e.error) }
+    ensures taken { IfOk result (λ next. (first : ℕ) (start : BeforeOf) →
+        AreIncluded (O.opens files.now) levels text.now first start place before.old →
+        AreIncluded (O.opens files.now) levels text.now first start next before.new) }
+    ensures fault { IfErr result (λ e. (start : BeforeOf) →
+        IsFrontWithFiles (O.opens files.now) levels text.now start place before.old →
+        IsFaultWithFiles (O.opens files.now) (O.refuses files.now) levels name.now text.now start e.file e.error) }
 {
     let Inclusion {
         file,
@@ -306,8 +319,12 @@ fn take_next<O: FileOpener>(
     requires records { All IsZoneRecord before.old.records }
     ensures on { IfOk result (λ next. place < next) }
     ensures records { OnOk result (All IsZoneRecord before.new.records) }
-    ensures taken { IfOk result (λ next. (first : ℕ) (start : BeforeOf) → AreIncluded (O.opens files.now) levels text.now first start place before.old → AreIncluded (O.opens files.now) levels text.now first start next before.new) }
-    ensures fault { IfErr result (λ e. (start : BeforeOf) → IsFrontWithFiles (O.opens files.now) levels text.now start place before.old → IsFaultWithFiles (O.opens files.now) (O.refuses files.now) levels name.now text.now start e.file e.error) }
+    ensures taken { IfOk result (λ next. (first : ℕ) (start : BeforeOf) →
+        AreIncluded (O.opens files.now) levels text.now first start place before.old →
+        AreIncluded (O.opens files.now) levels text.now first start next before.new) }
+    ensures fault { IfErr result (λ e. (start : BeforeOf) →
+        IsFrontWithFiles (O.opens files.now) levels text.now start place before.old →
+        IsFaultWithFiles (O.opens files.now) (O.refuses files.now) levels name.now text.now start e.file e.error) }
 {
     let refused = match entry_at(alloc, text, place, before) {
         Ok((entry, end)) => {
@@ -324,7 +341,8 @@ fn take_next<O: FileOpener>(
     }
 }
 
-/// Takes all entries of a text and of the files that it includes, to so many levels. Where one is refused, nothing is said of what is left.
+/// Takes all entries of a text and of the files that it includes, to so many levels. Where one is refused, nothing is
+/// said of what is left.
 #[cycle(included)]
 fn read_text<O: FileOpener>(
     alloc: Global,
@@ -336,8 +354,10 @@ fn read_text<O: FileOpener>(
 ) -> Result<(), IncludedError>
     requires { All IsZoneRecord before.old.records }
     ensures records { OnOk result (All IsZoneRecord before.new.records) }
-    ensures taken { OnOk result ((end : ℕ) × IsFrontWithFiles (O.opens files.now) levels text.now before.old end before.new × (length text.now ≤ end)) }
-    ensures fault { IfErr result (λ e. IsFaultWithFiles (O.opens files.now) (O.refuses files.now) levels name.now text.now before.old e.file e.error) }
+    ensures taken { OnOk result ((end : ℕ) ×
+        IsFrontWithFiles (O.opens files.now) levels text.now before.old end before.new × (length text.now ≤ end)) }
+    ensures fault { IfErr result (λ e. IsFaultWithFiles (O.opens files.now) (O.refuses files.now) levels name.now
+        text.now before.old e.file e.error) }
 {
     let mut place = first_entry(text);
     'entries: while place < text.len() {
@@ -346,14 +366,16 @@ fn read_text<O: FileOpener>(
     Ok(())
 }
 
-/// Reads a zone file, as [`read_zone_bytes`](crate::read_zone_bytes) does, with the files that it includes (RFC 1035 section 5.1).
+/// Reads a zone file, as [`read_zone_bytes`](crate::read_zone_bytes) does, with the files that it includes (RFC 1035
+/// section 5.1).
 ///
-/// `$INCLUDE` has the name of a file behind it, in quotes or not, and may have the origin of what stands in the file, which is the one in force where it has
-/// none. The file is read as if it stood there, but that the origin and the owner name in force are those of before again behind it; its records, and the
-/// TTL of its last `$TTL`, stay. Files are included in one another to ten levels, so one that includes itself is a fault.
+/// `$INCLUDE` has the name of a file behind it, in quotes or not, and may have the origin of what stands in the file,
+/// which is the one in force where it has none. The file is read as if it stood there, but that the origin and the
+/// owner name in force are those of before again behind it; its records, and the TTL of its last `$TTL`, stay. Files
+/// are included in one another to ten levels, so one that includes itself is a fault.
 ///
-/// The first fault ends it, with the name of the file that it stands in, line, column and field; the reason why a file is not given is one, at the directive
-/// that includes it.
+/// The first fault ends it, with the name of the file that it stands in, line, column and field; the reason why a file
+/// is not given is one, at the directive that includes it.
 pub fn read_zone_with_files<O: FileOpener>(
     alloc: Global,
     text: &[u8],
@@ -362,7 +384,8 @@ pub fn read_zone_with_files<O: FileOpener>(
 ) -> Result<Items<Record>, IncludedError>
     ensures file { IfOk result (IsZoneWithFiles (O.opens files.now) origin.now text.now) }
     ensures records { IfOk result (λ records. All IsZoneRecord records) }
-    ensures fault { IfErr result (λ e. IsFaultWithFiles (O.opens files.now) (O.refuses files.now) 10 [] text.now (start_of origin.now) e.file e.error) }
+    ensures fault { IfErr result (λ e. IsFaultWithFiles (O.opens files.now) (O.refuses files.now) 10 [] text.now
+        (start_of origin.now) e.file e.error) }
 {
     let Ok(origin) = origin.clone() else {
         return Err(no_memory(alloc));

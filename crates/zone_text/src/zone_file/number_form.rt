@@ -116,7 +116,8 @@ fn glyph(upper: bool, digit: u8) -> u8
 /// Puts a hexadecimal digit behind other bytes, and a dot behind it where more than one byte is left.
 fn put_nibble(upper: bool, left: usize, digit: u8, bytes: &mut Vec<u8>) -> Result<(), AllocError>
     requires { digit < 16 }
-    ensures { OnOk result (bytes.new.items ≡ bytes.old.items ++ (if nat_lt 1 left then digit_glyph upper digit ∷ 46 ∷ [] else digit_glyph upper digit ∷ [])) }
+    ensures { OnOk result (bytes.new.items ≡ bytes.old.items ++
+        (if nat_lt 1 left then digit_glyph upper digit ∷ 46 ∷ [] else digit_glyph upper digit ∷ [])) }
 {
     bytes.push(glyph(upper, digit))?;
     if left > 1 {

@@ -33,7 +33,8 @@ fn first_at(text: &[u8], byte: u8) -> Option<usize>
 /// What stands before the first such byte, or all, and what stands behind it, if it is there.
 pub(crate) fn parts(text: &[u8], byte: u8) -> (&[u8], Option<&[u8]>)
     ensures before { result.0.now ≡ part_before byte text.now }
-    ensures behind { MatchOption result.1 (part_behind byte text.now ≡ None) (λ behind. part_behind byte text.now ≡ Some behind.now) }
+    ensures behind { MatchOption result.1 (part_behind byte text.now ≡ None)
+        (λ behind. part_behind byte text.now ≡ Some behind.now) }
     ensures shorter { IfSome result.1 (λ behind. length behind.now < length text.now) }
 {
     match first_at(text, byte) {

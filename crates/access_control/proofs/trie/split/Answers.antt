@@ -2,7 +2,7 @@ use Rattle.std.proofs.Common.{◌≡◌, ◌↔◌, ◌+◌, ◌-◌, ◌/◌, �
 use Rattle.std.specs.declared.alloc.Global.{Global}
 use Rattle.access_control.specs.Access.{Network}
 use Rattle.access_control.specs.Prefixes.{IsCommon}
-use Rattle.access_control.specs.Tries.{networks_of}
+use Rattle.access_control.specs.representation.Tries.{networks_of}
 use Rattle.access_control.specs.declared.trie.Node.{Node}
 use Rattle.access_control.proofs.lemmas.Tries.{above_node, attached}
 use Rattle.access_control.proofs.trie.split.Goals as goal

@@ -3,8 +3,8 @@ use Rattle.std.proofs.Common.{◌≡◌, ◌∙◌, ℕ, List, Vec, Err, ap, len
 use Rattle.std.specs.declared.alloc.Global.{Global}
 use Rattle.hickory_base.specs.declared.errors.UpdateFault.{UpdateFault}
 use Rattle.update_journal.specs.Read.{contents}
-use Rattle.durable_updates.specs.Batches.{Told, told_unwritten}
-use Rattle.durable_updates.specs.DurableUpdates.{IsWriteFault}
+use Rattle.durable_updates.specs.Batches.{told_unwritten}
+use Rattle.durable_updates.specs.DurableUpdates.{IsWriteFault, Told}
 use Rattle.durable_updates.specs.Journalling.{JournalsAll, RefusesEntries}
 use Rattle.durable_updates.proofs.Judging.{all_mapped, whole}
 use Rattle.durable_updates.proofs.batches.commit.Goals as goal

@@ -2,9 +2,10 @@
 use Rattle.std.proofs.Common.{◌≡◌, ◌∙◌, ◌-◌, ◌++◌, ◌∷◌, [], ℕ, List, ap, arith, drop, length, refl, subst, sym, take}
 use Rattle.std.proofs.lemmas.List.{append-nil}
 use Rattle.hickory_base.specs.requests.Requests.{ReceivedRequest}
-use Rattle.hickory_store.specs.UpdatableZone.{UpdatableZone}
+use Rattle.hickory_store.specs.updates.UpdatableZone.{UpdatableZone}
 use Rattle.update_journal.specs.Read.{contents}
-use Rattle.durable_updates.specs.Batches.{AnswersEach, Told, accepted, bytes_of}
+use Rattle.durable_updates.specs.Batches.{AnswersEach, accepted, bytes_of}
+use Rattle.durable_updates.specs.DurableUpdates.{Told}
 use Rattle.durable_updates.proofs.Judging.{front_of, leads_more, more_keeps, none_of, written_more}
 use Rattle.durable_updates.proofs.batches.judge_all.Goals as goal
 

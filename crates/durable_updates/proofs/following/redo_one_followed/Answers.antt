@@ -1,6 +1,6 @@
 -- What the entry changed is recorded, and else what led to the zone stays.
 use Rattle.std.proofs.Common.{inl, ap, List, subst, sym}
-use Rattle.hickory_store.specs.UpdatableZone.{UpdatableZone}
+use Rattle.hickory_store.specs.updates.UpdatableZone.{UpdatableZone}
 use Rattle.zone_differences.specs.Histories.{IsKeptUp}
 use Rattle.zone_differences.specs.declared.difference.Difference.{Difference}
 use Rattle.durable_updates.proofs.Followed.{recorded}

@@ -1,5 +1,5 @@
 -- Life by life.
-use Rattle.hickory_store.proofs.DataTypes.{one_type}
+use Rattle.hickory_store.proofs.lemmas.updates.DataTypes.{one_type}
 use Rattle.durable_updates.proofs.CompactedRuns.{compacted_runs_are_kept}
 use Rattle.durable_updates.proofs.laws.compacted_runs_are_kept.Goals as goal
 

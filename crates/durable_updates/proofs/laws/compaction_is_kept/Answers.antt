@@ -1,5 +1,5 @@
 -- The old file or the new one.
-use Rattle.hickory_store.proofs.DataTypes.{one_type}
+use Rattle.hickory_store.proofs.lemmas.updates.DataTypes.{one_type}
 use Rattle.durable_updates.proofs.Compactions.{compaction_is_kept}
 use Rattle.durable_updates.proofs.laws.compaction_is_kept.Goals as goal
 

@@ -1,5 +1,5 @@
 -- Entry by entry, behind the snapshot.
-use Rattle.hickory_store.proofs.DataTypes.{one_type}
+use Rattle.hickory_store.proofs.lemmas.updates.DataTypes.{one_type}
 use Rattle.durable_updates.proofs.Recalled.{fresh_recalled, recalled_once}
 use Rattle.durable_updates.proofs.laws.recalled_once.Goals as goal
 

@@ -1,5 +1,5 @@
 -- Entry by entry.
-use Rattle.hickory_store.proofs.DataTypes.{one_type}
+use Rattle.hickory_store.proofs.lemmas.updates.DataTypes.{one_type}
 use Rattle.durable_updates.proofs.Sameness.{redone_once}
 use Rattle.durable_updates.proofs.laws.redone_once.Goals as goal
 

@@ -6,8 +6,8 @@ use Rattle.wire_messages.specs.declared.rr.record.Record.{Record}
 use Rattle.wire_messages.specs.declared.rr.rr_key.RrKey.{RrKey}
 use Rattle.hickory_base.specs.zone_store.ZoneAnswers.{MemoryZone}
 use Rattle.hickory_base.specs.zone_store.ZoneSets.{zone_records}
-use Rattle.hickory_store.specs.Identity.{ttl_at}
-use Rattle.hickory_store.specs.UpdateLaws.{HasOneSoa}
+use Rattle.hickory_store.specs.updates.Identity.{ttl_at}
+use Rattle.hickory_store.specs.updates.UpdateLaws.{HasOneSoa}
 use Rattle.durable_updates.proofs.snapshots.put_records.Goals as goal
 
 pub returns-clause-records : goal.returns-clause-records

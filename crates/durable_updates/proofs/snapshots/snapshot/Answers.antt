@@ -6,7 +6,7 @@ use Rattle.wire_messages.specs.declared.rr.record.Record.{Record}
 use Rattle.wire_messages.specs.declared.rr.rr_key.RrKey.{RrKey}
 use Rattle.hickory_base.specs.zone_store.ZoneAnswers.{MemoryZone}
 use Rattle.hickory_base.specs.zone_store.ZoneSets.{sets_of, zone_records}
-use Rattle.hickory_store.proofs.DataTypes.{one_type}
+use Rattle.hickory_store.proofs.lemmas.updates.DataTypes.{one_type}
 use Rattle.update_journal.specs.Read.{contents}
 use Rattle.update_journal.proofs.Recovery.{contents_more}
 use Rattle.durable_updates.specs.Snapshots.{Say}

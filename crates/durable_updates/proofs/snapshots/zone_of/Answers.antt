@@ -1,6 +1,6 @@
 -- The zone of the records.
 use Rattle.std.proofs.Common.{◌∙◌}
-use Rattle.hickory_store.proofs.DataTypes.{one_type}
+use Rattle.hickory_store.proofs.lemmas.updates.DataTypes.{one_type}
 use Rattle.durable_updates.proofs.Recalled.{lowered, made_same, made_soa}
 use Rattle.durable_updates.proofs.snapshots.zone_of.Goals as goal
 

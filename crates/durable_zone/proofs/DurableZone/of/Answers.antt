@@ -1,6 +1,6 @@
 -- The overview is of the zone that is kept.
 use Rattle.std.proofs.Common.{subst}
-use Rattle.hickory_store.specs.UpdatableZone.{UpdatableZone}
+use Rattle.hickory_store.specs.updates.UpdatableZone.{UpdatableZone}
 use Rattle.dynamic_zone.specs.Overviews.{IsOverview}
 use Rattle.durable_zone.proofs.DurableZone.of.Goals as goal
 

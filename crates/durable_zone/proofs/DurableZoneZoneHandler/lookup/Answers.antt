@@ -1,6 +1,6 @@
 -- In the zone as its updates left it.
 use Rattle.std.proofs.Common.{subst, sym}
-use Rattle.hickory_store.specs.UpdatableZone.{UpdatableZone}
+use Rattle.hickory_store.specs.updates.UpdatableZone.{UpdatableZone}
 use Rattle.dynamic_zone.specs.DynamicZones.{LookedUp}
 use Rattle.dynamic_zone.specs.Overviews.{IsOverview}
 use Rattle.durable_zone.specs.DurableZones.{KeptZone}

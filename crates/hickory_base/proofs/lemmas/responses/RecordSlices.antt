@@ -3,7 +3,7 @@ use Rattle.std.proofs.Common.{◌≡◌, List, Option, sym, ◌∙◌}
 use Rattle.std.specs.Borrow.{Bor}
 use Rattle.std.specs.Slice.Iter.{iter_steps, iter_rest}
 use Rattle.std.proofs.lemmas.Iterator.{YieldsList, items_from_drains, YieldsList-from_slice}
-use Rattle.wire_writing.specs.serialize.writing.Endings.{GivesRecords}
+use Rattle.wire_writing.specs.representation.Endings.{GivesRecords}
 use Rattle.wire_messages.specs.declared.rr.rdata.RData.{RData}
 use Rattle.wire_messages.specs.declared.rr.record.Record.{Record}
 

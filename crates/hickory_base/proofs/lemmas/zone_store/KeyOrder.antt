@@ -1,4 +1,5 @@
--- In the order of keys, by name and then by type, the keys of one name stand together, behind the one of that name and type 0.
+-- In the order of keys, by name and then by type, the keys of one name stand together, behind the one of that name and
+-- type 0.
 use Rattle.std.proofs.Common.{◌≡◌, ℕ, Bool, true, false, cond, ◌&&◌, ◌||◌, List, [], ◌∷◌, filter, refl, sym, ap, ◌∙◌, arith}
 use Rattle.std.specs.Prelude.{nat_lt, ◌==◌}
 use Rattle.std.specs.List.{AllByRecursion, list_any}

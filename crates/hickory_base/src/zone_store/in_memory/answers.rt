@@ -3,6 +3,7 @@
 ghost use Rattle.std.specs.Prelude.{◌≡◌, ◌≢◌, Err, IfSome, None, false, true};
 ghost use Rattle.std.specs.Map.{lookup};
 ghost use Rattle.std.specs.Option.{option_copied};
+ghost use Rattle.wire_messages.specs.Numbers.{code_not_imp, type_soa};
 ghost use Rattle.hickory_base.specs.requests.Questions.{one_query};
 ghost use Rattle.hickory_base.specs.zone_store.ZoneAnswers.{LookedUp, OrMemory, Searched, Transferred, asks_for_set, found, soa_alone, transfer_answer, zone_answer};
 ghost use Rattle.hickory_base.specs.zone_store.ZoneSets.{is_key};
@@ -23,7 +24,8 @@ impl InMemoryZoneHandler {
     /// The records of type SOA at the origin, where these are asked for. It needs no memory.
     fn soa_asked(&self, name: &LowerName, record_type: RecordType) -> Option<&[Record]>
         ensures asked { IfSome result (λ records. zone_answer self.now.sets name.now record_type ≡ found records.now) }
-        ensures given { name.now ≡ self.now.origin → record_type ≡ 6 → option_copied result ≡ lookup (is_key self.now.origin 6) self.now.sets }
+        ensures given { name.now ≡ self.now.origin → record_type ≡ type_soa →
+            option_copied result ≡ lookup (is_key self.now.origin type_soa) self.now.sets }
     {
         if record_type.value() == RecordType::SOA.value() && *name == self.apex.name {
             self.soa_set()
@@ -42,7 +44,8 @@ impl InMemoryZoneHandler {
         }
     }
 
-    /// The zone's SOA record alone in the place of a transfer, for whoever may have one (RFC 1995 section 2). Without an SOA it is ServFail.
+    /// The zone's SOA record alone in the place of a transfer, for whoever may have one (RFC 1995 section 2). Without
+    /// an SOA it is ServFail.
     pub fn soa_transfer(&self, alloc: Global) -> Result<ZoneTransfer, LookupError>
         ensures { OrMemory (soa_alone (transfer_answer self.now)) result }
     {
@@ -76,7 +79,8 @@ impl ZoneHandler for InMemoryZoneHandler {
 
     ghost nsec3_gives = { λ _ _ _ answer. answer ≡ Skip };
 
-    ghost update_gives = { λ zone _ _ answer context new. (answer ≡ Err (Code 4)) × (context ≡ None) × (new ≡ zone) };
+    ghost update_gives = { λ zone _ _ answer context new. (answer ≡ Err (Code code_not_imp)) × (context ≡ None) ×
+        (new ≡ zone) };
 
     fn zone_type(&self) -> ZoneType {
         self.zone_type
@@ -108,7 +112,9 @@ impl ZoneHandler for InMemoryZoneHandler {
         _options: LookupOptions,
     ) -> LookupControlFlow<AuthLookup<'_>>
         ensures gives { LookedUp self.now name.now record_type result }
-        ensures soa { name.now ≡ self.now.origin → record_type ≡ 6 → IfSome (lookup (is_key self.now.origin 6) self.now.sets) (λ records. result ≡ Continue (found records)) }
+        ensures soa { name.now ≡ self.now.origin → record_type ≡ type_soa →
+            IfSome (lookup (is_key self.now.origin type_soa) self.now.sets) (λ records.
+            result ≡ Continue (found records)) }
     {
         if let Some(records) = self.soa_asked(name, record_type) {
             return LookupControlFlow::Continue(Ok(AuthLookup::lent(records)));
@@ -127,7 +133,8 @@ impl ZoneHandler for InMemoryZoneHandler {
         Option<TSigResponseContext>,
     )
         ensures gives { Searched self.now request.now result.0 × (result.1 ≡ None) }
-        ensures lent { asks_for_set (one_query request.now.message.queries.queries) ≡ true → result.0 ≢ Continue (Err Memory) }
+        ensures lent { asks_for_set (one_query request.now.message.queries.queries) ≡ true →
+            result.0 ≢ Continue (Err Memory) }
     {
         let query = match request.message().queries.try_as_query() {
             Ok(query) => query,

@@ -3,6 +3,7 @@
 ghost use Rattle.std.specs.Prelude.{◌≡◌, ◌++◌, ◌∷◌, [], OnOk, IfOk, MatchResult, None, Some, Ok, cond, drop, filter};
 ghost use Rattle.std.specs.List.{flat_map, list_any};
 ghost use Rattle.std.specs.Option.{option_copied};
+ghost use Rattle.wire_messages.specs.Numbers.{code_serv_fail};
 ghost use Rattle.hickory_base.specs.zone_store.ZoneAnswers.{OrMemory, soa_alone, whole_zone, zone_soa};
 ghost use Rattle.hickory_base.specs.zone_store.ZoneRecords.{existing, is_at, rrset};
 ghost use Rattle.hickory_base.specs.zone_store.ZoneSets.{is_key, keys_at, sets_of, zone_records};
@@ -25,7 +26,8 @@ fn append_others(
     sets: &BTreeMap<RrKey, Rc<RecordSet>>,
     apex: &RrKey,
 ) -> Result<(), AllocError>
-    ensures { OnOk result (all.new.items ≡ all.old.items ++ flat_map (λ e. cond (is_key apex.now.name apex.now.record_type e.0) (drop 1 e.1) e.1) (sets_of sets.now)) }
+    ensures { OnOk result (all.new.items ≡ all.old.items ++ flat_map
+        (λ e. cond (is_key apex.now.name apex.now.record_type e.0) (drop 1 e.1) e.1) (sets_of sets.now)) }
 {
     for (key, set) in sets {
         let records = set.records();
@@ -48,12 +50,14 @@ impl InMemoryZoneHandler {
     /// The records of a name and type (RFC 2181 section 5), if there are any. It needs no memory, and time by the depth
     /// of the zone's map.
     pub fn record_set(&self, key: &RrKey) -> Option<&[Record]>
-        ensures { option_copied result ≡ existing (rrset (zone_records self.now.sets) key.now.name key.now.record_type) }
+        ensures { option_copied result ≡ existing
+            (rrset (zone_records self.now.sets) key.now.name key.now.record_type) }
     {
         set_under(&self.records, key)
     }
 
-    /// Whether there are records of this name, of whatever type. It needs no memory, and time by the depth of the zone's map.
+    /// Whether there are records of this name, of whatever type. It needs no memory, and time by the depth of the
+    /// zone's map.
     pub fn is_in_use(&self, name: LowerName) -> bool
         ensures { result ≡ list_any (is_at name) (zone_records self.now.sets) }
     {
@@ -61,8 +65,8 @@ impl InMemoryZoneHandler {
         is_in_use(&self.records, &first)
     }
 
-    /// Copies of the records of a name, whatever their type, in the order of the sets. It takes time by what it copies and
-    /// the depth of the zone's map.
+    /// Copies of the records of a name, whatever their type, in the order of the sets. It takes time by what it copies
+    /// and the depth of the zone's map.
     pub fn records_of_name(&self, alloc: Global, name: LowerName) -> Result<Vec<Record>, AllocError>
         ensures { IfOk result (λ all. all.items ≡ filter (is_at name) (zone_records self.now.sets)) }
     {
@@ -70,7 +74,8 @@ impl InMemoryZoneHandler {
         copies_of_name(alloc, &self.records, &first)
     }
 
-    /// Copies of the keys of a name's sets, in their order. It takes time by what it copies and the depth of the zone's map.
+    /// Copies of the keys of a name's sets, in their order. It takes time by what it copies and the depth of the zone's
+    /// map.
     pub fn keys_of_name(&self, alloc: Global, name: LowerName) -> Result<Vec<RrKey>, AllocError>
         ensures { IfOk result (λ keys. keys.items ≡ keys_at name self.now.sets) }
     {
@@ -93,7 +98,8 @@ impl InMemoryZoneHandler {
 
     /// The SOA record at the origin; without one it is ServFail.
     fn soa_or_failure(&self) -> Result<&Record, LookupError>
-        ensures { MatchResult result (λ soa. zone_soa self.now ≡ Some soa.now) (λ e. (zone_soa self.now ≡ None) × (e ≡ LookupError.ResponseCode 2)) }
+        ensures { MatchResult result (λ soa. zone_soa self.now ≡ Some soa.now) (λ e. (zone_soa self.now ≡ None) ×
+            (e ≡ LookupError.ResponseCode code_serv_fail)) }
     {
         match self.soa() {
             None => Err(LookupError::ResponseCode(ResponseCode::SERV_FAIL)),
@@ -110,8 +116,8 @@ impl InMemoryZoneHandler {
         Ok(self.all_records(alloc, soa)?)
     }
 
-    /// The SOA record at the origin alone, as the whole answer to a query for what changed in the zone (RFC 1995 section 2), whoever may have it.
-    /// Without an SOA it is ServFail.
+    /// The SOA record at the origin alone, as the whole answer to a query for what changed in the zone (RFC 1995
+    /// section 2), whoever may have it. Without an SOA it is ServFail.
     pub fn soa_alone(&self, alloc: Global) -> Result<ZoneTransfer, LookupError>
         ensures { OrMemory (soa_alone (whole_zone self.now (zone_soa self.now))) result }
     {

@@ -1,5 +1,5 @@
 use Rattle.std.proofs.Common.{◌≡◌, Some, rules}
-use Rattle.hickory_catalog.specs.Authoritative.{refusal_code, refuses}
+use Rattle.hickory_catalog.specs.queries.Authoritative.{refusal_code, refuses}
 use Rattle.hickory_catalog.proofs.authoritative.authoritative_contents.Goals as goal
 
 pub returns-in-Some-clause-replied : goal.returns-in-Some-clause-replied

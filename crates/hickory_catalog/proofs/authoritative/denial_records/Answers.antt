@@ -1,6 +1,6 @@
 use Rattle.std.proofs.Common.{◌≡◌, false, rules, refl}
 use Rattle.hickory_base.specs.declared.zone_store.lookup.LookupControlFlow.TheVariants.{Skip}
-use Rattle.hickory_catalog.proofs.QueryReplies.{if_ok_map}
+use Rattle.hickory_catalog.proofs.lemmas.queries.QueryReplies.{if_ok_map}
 use Rattle.hickory_catalog.proofs.authoritative.denial_records.Goals as goal
 
 pub returns-then-not-options-clause-given : goal.returns-then-not-options-clause-given

@@ -1,6 +1,6 @@
 use Rattle.std.proofs.Common.{sym}
-use Rattle.hickory_catalog.specs.Authoritative.{BesideAnswer, finds}
-use Rattle.hickory_catalog.specs.Transcripts.{options_of}
+use Rattle.hickory_catalog.specs.queries.Authoritative.{BesideAnswer, finds}
+use Rattle.hickory_catalog.specs.queries.Transcripts.{options_of}
 use Rattle.hickory_catalog.proofs.authoritative.found_contents.Goals as goal
 
 pub returns-clause-replied : goal.returns-clause-replied

@@ -1,9 +1,9 @@
 use Rattle.std.proofs.Common.{sym, subst}
 use Rattle.hickory_base.specs.declared.zone_store.lookup.LookupOptions.{LookupOptions}
-use Rattle.hickory_catalog.specs.Authoritative.{denies}
-use Rattle.hickory_catalog.specs.Denying.{DenialOfNegative}
-use Rattle.hickory_catalog.specs.Transcripts.{options_of}
-use Rattle.hickory_catalog.proofs.QueryReplies.{if_ok_map}
+use Rattle.hickory_catalog.specs.queries.Authoritative.{denies}
+use Rattle.hickory_catalog.specs.queries.DenialRecords.{DenialOfNegative}
+use Rattle.hickory_catalog.specs.queries.Transcripts.{options_of}
+use Rattle.hickory_catalog.proofs.lemmas.queries.QueryReplies.{if_ok_map}
 use Rattle.hickory_catalog.proofs.authoritative.nothing_contents.Goals as goal
 
 pub returns-clause-replied : goal.returns-clause-replied

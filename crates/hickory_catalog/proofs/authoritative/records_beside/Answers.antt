@@ -1,7 +1,7 @@
 use Rattle.std.proofs.Common.{◌≡◌, false, None, rules, refl}
 use Rattle.std.specs.Prelude.{◌==◌}
 use Rattle.hickory_base.specs.declared.zone_store.lookup.LookupControlFlow.TheVariants.{Skip}
-use Rattle.hickory_catalog.proofs.QueryReplies.{if_ok_map}
+use Rattle.hickory_catalog.proofs.lemmas.queries.QueryReplies.{if_ok_map}
 use Rattle.hickory_catalog.proofs.authoritative.records_beside.Goals as goal
 
 pub returns-then-is_nothing_denied-clause-given : goal.returns-then-is_nothing_denied-clause-given

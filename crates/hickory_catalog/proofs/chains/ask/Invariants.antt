@@ -1,5 +1,5 @@
 use Rattle.std.proofs.Common.{◌≡◌, None}
-use Rattle.hickory_catalog.proofs.Asking.{AskedOn}
+use Rattle.hickory_catalog.proofs.lemmas.queries.ChainsFromPlace.{AskedOn}
 use Rattle.hickory_catalog.proofs.chains.ask.Given as goal
 
 abbrev pub invariant-loop-place : goal.invariant-loop-place

@@ -1,6 +1,6 @@
 use Rattle.hickory_base.specs.requests.Requests.{information_of}
-use Rattle.hickory_catalog.proofs.Consulting.{ConsultedOn}
+use Rattle.hickory_catalog.proofs.lemmas.queries.ConsultedFromPlace.{ConsultedOn}
 use Rattle.hickory_catalog.proofs.chains.consult.Given as goal
 
 abbrev pub invariant-loop-i : goal.invariant-loop-i
-invariant-loop-i g l = ConsultedOn g.H.ZoneHandler (information_of l.info) l.options l.handlers l.fn.given.0 l.fn.given.1 l.i l.given.0 l.given.1
+invariant-loop-i g l = ConsultedOn g.H.ZoneHandler (information_of l.info) l.options l.handlers l.fn.given l.i l.given

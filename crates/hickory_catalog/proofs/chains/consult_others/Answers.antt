@@ -1,4 +1,4 @@
-use Rattle.hickory_catalog.proofs.Consulting.{behind_is, joined}
+use Rattle.hickory_catalog.proofs.lemmas.queries.ConsultedFromPlace.{behind_is, joined}
 use Rattle.hickory_catalog.proofs.chains.consult_others.Goals as goal
 
 pub returns-clause-consulted : goal.returns-clause-consulted

@@ -1,8 +1,8 @@
 use Rattle.std.proofs.Common.{◌≡◌, true, rules, sym}
 use Rattle.std.specs.List.{list_all}
 use Rattle.hickory_base.specs.zone_store.Lookups.{asks_for_dnssec}
-use Rattle.hickory_catalog.specs.Forwarded.{is_passed_on}
-use Rattle.hickory_catalog.proofs.KeptRecords.{all_kept}
+use Rattle.hickory_catalog.specs.queries.Forwarded.{is_passed_on}
+use Rattle.hickory_catalog.proofs.lemmas.queries.KeptRecords.{all_kept}
 use Rattle.hickory_catalog.proofs.forwarded.passed_on.Goals as goal
 
 pub returns-then-all_are_passed_on : goal.returns-then-all_are_passed_on

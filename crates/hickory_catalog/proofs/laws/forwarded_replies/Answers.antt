@@ -1,4 +1,4 @@
-use Rattle.hickory_catalog.proofs.ForwardedReplies.{authenticated, carries_soa, nothing_bogus, on_demand}
+use Rattle.hickory_catalog.proofs.lemmas.queries.ForwardedReplies.{authenticated, carries_soa, nothing_bogus, on_demand}
 use Rattle.hickory_catalog.proofs.laws.forwarded_replies.Goals as goal
 
 pub returns-clause-authentic : goal.returns-clause-authentic

@@ -1,5 +1,5 @@
-use Rattle.hickory_catalog.specs.Server.{server_of}
-use Rattle.hickory_catalog.proofs.OneReply.{query_once}
+use Rattle.hickory_catalog.specs.requests.Server.{server_of}
+use Rattle.hickory_catalog.proofs.lemmas.queries.OneReply.{query_once}
 use Rattle.hickory_catalog.proofs.laws.one_reply.Goals as goal
 
 pub returns : goal.returns

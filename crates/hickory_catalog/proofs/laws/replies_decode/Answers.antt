@@ -1,5 +1,5 @@
 use Rattle.std.proofs.Common.{ℕ, ◌+◌, ◌≤◌, List, length, sym, subst}
-use Rattle.hickory_catalog.proofs.DecodedReplies.{reads_back}
+use Rattle.hickory_catalog.proofs.lemmas.replies.DecodedReplies.{reads_back}
 use Rattle.hickory_catalog.proofs.laws.replies_decode.Goals as goal
 
 pub returns : goal.returns

@@ -1,5 +1,5 @@
-use Rattle.hickory_catalog.specs.Server.{server_of}
-use Rattle.hickory_catalog.proofs.RepliesFit.{error_fits, query_fits, request_fits, signed_fits, transferred_fits, update_fits}
+use Rattle.hickory_catalog.specs.requests.Server.{server_of}
+use Rattle.hickory_catalog.proofs.lemmas.replies.RepliesFit.{error_fits, query_fits, request_fits, signed_fits, transferred_fits, update_fits}
 use Rattle.hickory_catalog.proofs.laws.replies_of_requests.Goals as goal
 
 pub returns-clause-queries : goal.returns-clause-queries

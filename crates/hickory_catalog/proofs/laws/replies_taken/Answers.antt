@@ -1,4 +1,4 @@
-use Rattle.hickory_catalog.proofs.SentInOrder.{all_taken}
+use Rattle.hickory_catalog.proofs.lemmas.replies.SentInOrder.{all_taken}
 use Rattle.hickory_catalog.proofs.laws.replies_taken.Goals as goal
 
 pub returns : goal.returns

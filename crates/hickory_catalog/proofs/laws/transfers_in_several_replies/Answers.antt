@@ -1,5 +1,5 @@
-use Rattle.hickory_catalog.proofs.Runs.{runs_once}
-use Rattle.hickory_catalog.proofs.TransferReplies.{answers_joined, no_answer_cut}
+use Rattle.hickory_catalog.proofs.lemmas.transfers.Runs.{runs_once}
+use Rattle.hickory_catalog.proofs.lemmas.transfers.TransferReplies.{answers_joined, no_answer_cut}
 use Rattle.hickory_catalog.proofs.laws.transfers_in_several_replies.Goals as goal
 
 pub returns-clause-joined : goal.returns-clause-joined

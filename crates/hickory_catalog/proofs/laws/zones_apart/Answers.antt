@@ -1,7 +1,7 @@
-use Rattle.hickory_catalog.specs.Server.{server_of}
-use Rattle.hickory_catalog.proofs.Alone.{request_alone, request_apexes, request_stays, transfer_alone}
-use Rattle.hickory_catalog.proofs.Deciding.{of_zone_decided}
-use Rattle.hickory_catalog.proofs.OneAnswer.{one_at}
+use Rattle.hickory_catalog.specs.requests.Server.{server_of}
+use Rattle.hickory_catalog.proofs.lemmas.zones.Alone.{request_alone, request_apexes, request_stays, transfer_alone}
+use Rattle.hickory_catalog.proofs.lemmas.zones.RequestsToZones.{of_zone_decided}
+use Rattle.hickory_catalog.proofs.lemmas.zones.OneAnswer.{one_at}
 use Rattle.hickory_catalog.proofs.laws.zones_apart.Goals as goal
 
 pub returns-clause-alone : goal.returns-clause-alone

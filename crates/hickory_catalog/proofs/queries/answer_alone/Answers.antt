@@ -1,7 +1,7 @@
-use Rattle.hickory_catalog.specs.Queries.{whole_contents}
-use Rattle.hickory_catalog.specs.Replies.{unsigned_reply}
-use Rattle.hickory_catalog.specs.Server.{server_of}
-use Rattle.hickory_catalog.proofs.OneHandler.{whole_alone}
+use Rattle.hickory_catalog.specs.queries.Queries.{whole_contents}
+use Rattle.hickory_catalog.specs.replies.Replies.{unsigned_reply}
+use Rattle.hickory_catalog.specs.requests.Server.{server_of}
+use Rattle.hickory_catalog.proofs.lemmas.queries.OneHandler.{whole_alone}
 use Rattle.hickory_catalog.proofs.queries.answer_alone.Goals as goal
 
 pub returns-in-Some-clause-replied : goal.returns-in-Some-clause-replied

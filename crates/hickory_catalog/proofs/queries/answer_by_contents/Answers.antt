@@ -1,6 +1,6 @@
 use Rattle.std.proofs.Common.{Some, ap, ◌∙◌}
-use Rattle.hickory_catalog.specs.Replies.{contents_of}
-use Rattle.hickory_catalog.proofs.QueryReplies.{get_at, if_ok_map}
+use Rattle.hickory_catalog.specs.replies.Replies.{contents_of}
+use Rattle.hickory_catalog.proofs.lemmas.queries.QueryReplies.{get_at, if_ok_map}
 use Rattle.hickory_catalog.proofs.queries.answer_by_contents.Goals as goal
 
 pub returns-clause-replied : goal.returns-clause-replied

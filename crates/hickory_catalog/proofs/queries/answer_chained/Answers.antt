@@ -1,8 +1,8 @@
 use Rattle.std.proofs.Common.{rules, refl, ap}
 use Rattle.hickory_base.specs.zone_store.Lookups.{result_of}
-use Rattle.hickory_catalog.specs.Queries.{lookup, unanswered}
-use Rattle.hickory_catalog.specs.Replies.{error_reply}
-use Rattle.hickory_catalog.proofs.QueryReplies.{if_ok_map}
+use Rattle.hickory_catalog.specs.queries.Queries.{lookup, unanswered}
+use Rattle.hickory_catalog.specs.replies.Replies.{error_reply}
+use Rattle.hickory_catalog.proofs.lemmas.queries.QueryReplies.{if_ok_map}
 use Rattle.hickory_catalog.proofs.queries.answer_chained.Goals as goal
 
 pub returns-in-Skip-clause-replied : goal.returns-in-Skip-clause-replied

@@ -1,8 +1,8 @@
 use Rattle.std.proofs.Common.{[], ◌∷◌, refl, rules}
 use Rattle.hickory_base.specs.responses.Responses.{header_of}
-use Rattle.hickory_catalog.specs.Queries.{split, whole}
-use Rattle.hickory_catalog.proofs.QueryReplies.{if_ok_map}
-use Rattle.hickory_catalog.proofs.SentInOrder.{sent_alone}
+use Rattle.hickory_catalog.specs.queries.Queries.{split, whole}
+use Rattle.hickory_catalog.proofs.lemmas.queries.QueryReplies.{if_ok_map}
+use Rattle.hickory_catalog.proofs.lemmas.replies.SentInOrder.{sent_alone}
 use Rattle.hickory_catalog.proofs.queries.answer_given.Goals as goal
 
 pub returns-in-Some-clause-replied : goal.returns-in-Some-clause-replied

@@ -1,4 +1,4 @@
-use Rattle.hickory_catalog.proofs.OneHandler.{only_one}
+use Rattle.hickory_catalog.proofs.lemmas.queries.OneHandler.{only_one}
 use Rattle.hickory_catalog.proofs.queries.answer_lookup.Goals as goal
 
 pub answer_alone-requires-clause-alone : goal.answer_alone-requires-clause-alone

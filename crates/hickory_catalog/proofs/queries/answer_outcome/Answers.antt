@@ -1,6 +1,6 @@
 use Rattle.std.proofs.Common.{refl}
-use Rattle.hickory_catalog.specs.Queries.{whole_contents}
-use Rattle.hickory_catalog.proofs.QueryReplies.{at_place, if_ok_map}
+use Rattle.hickory_catalog.specs.queries.Queries.{whole_contents}
+use Rattle.hickory_catalog.proofs.lemmas.queries.QueryReplies.{at_place, if_ok_map}
 use Rattle.hickory_catalog.proofs.queries.answer_outcome.Goals as goal
 
 pub returns-in-Ok-Whole-clause-replied : goal.returns-in-Ok-Whole-clause-replied

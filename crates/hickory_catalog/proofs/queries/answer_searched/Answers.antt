@@ -1,7 +1,7 @@
 use Rattle.std.proofs.Common.{None}
 use Rattle.hickory_base.specs.requests.Requests.{information}
-use Rattle.hickory_catalog.specs.Queries.{consult_options}
-use Rattle.hickory_catalog.proofs.OneHandler.{answers_alone, skips_alone}
+use Rattle.hickory_catalog.specs.queries.Queries.{consult_options}
+use Rattle.hickory_catalog.proofs.lemmas.queries.OneHandler.{answers_alone, skips_alone}
 use Rattle.hickory_catalog.proofs.queries.answer_searched.Goals as goal
 
 pub answer_chained-requires-clause-skipped : goal.answer_chained-requires-clause-skipped

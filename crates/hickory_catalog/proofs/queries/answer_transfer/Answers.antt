@@ -1,5 +1,5 @@
-use Rattle.hickory_catalog.specs.Server.{server_of}
-use Rattle.hickory_catalog.proofs.QueryReplies.{if_ok_map, transferred}
+use Rattle.hickory_catalog.specs.requests.Server.{server_of}
+use Rattle.hickory_catalog.proofs.lemmas.queries.QueryReplies.{if_ok_map, transferred}
 use Rattle.hickory_catalog.proofs.queries.answer_transfer.Goals as goal
 
 pub returns-clause-replied : goal.returns-clause-replied

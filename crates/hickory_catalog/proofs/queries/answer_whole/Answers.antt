@@ -1,7 +1,7 @@
 use Rattle.std.proofs.Common.{refl}
-use Rattle.hickory_catalog.specs.Queries.{whole_contents}
-use Rattle.hickory_catalog.specs.Replies.{unsigned_reply}
-use Rattle.hickory_catalog.specs.Signing.{plain}
+use Rattle.hickory_catalog.specs.queries.Queries.{whole_contents}
+use Rattle.hickory_catalog.specs.replies.Replies.{unsigned_reply}
+use Rattle.hickory_catalog.specs.replies.Signing.{plain}
 use Rattle.hickory_catalog.proofs.queries.answer_whole.Goals as goal
 
 pub returns-in-Some-clause-replied : goal.returns-in-Some-clause-replied

@@ -1,9 +1,9 @@
 use Rattle.std.proofs.Common.{[], ◌∷◌, rules, refl}
 use Rattle.hickory_base.specs.responses.Responses.{header_of}
-use Rattle.hickory_catalog.specs.Replies.{error_reply}
-use Rattle.hickory_catalog.specs.WholeTransfers.{given, nobody}
-use Rattle.hickory_catalog.proofs.QueryReplies.{if_ok_map}
-use Rattle.hickory_catalog.proofs.SentInOrder.{sent_alone}
+use Rattle.hickory_catalog.specs.replies.Replies.{error_reply}
+use Rattle.hickory_catalog.specs.transfers.WholeTransfers.{given, nobody}
+use Rattle.hickory_catalog.proofs.lemmas.queries.QueryReplies.{if_ok_map}
+use Rattle.hickory_catalog.proofs.lemmas.replies.SentInOrder.{sent_alone}
 use Rattle.hickory_catalog.proofs.queries.give_transfer.Goals as goal
 
 pub returns-in-None-clause-replied : goal.returns-in-None-clause-replied

@@ -1,9 +1,9 @@
 use Rattle.std.proofs.Common.{refl}
 use Rattle.std.specs.Option.{option_copied}
 use Rattle.hickory_base.proofs.lemmas.responses.LentReplies.{given_by_empty, given_by_slice, reply_of_parts}
-use Rattle.hickory_catalog.specs.Replies.{contents_of, plain_reply}
-use Rattle.hickory_catalog.proofs.QueryReplies.{if_err_map, if_ok_map}
-use Rattle.hickory_catalog.proofs.SentReplies.{given_by_chain, sent_as_told}
+use Rattle.hickory_catalog.specs.replies.Replies.{contents_of, plain_reply}
+use Rattle.hickory_catalog.proofs.lemmas.queries.QueryReplies.{if_err_map, if_ok_map}
+use Rattle.hickory_catalog.proofs.lemmas.replies.SentReplies.{given_by_chain, sent_as_told}
 use Rattle.hickory_catalog.proofs.sending.send_contents.Goals as goal
 
 pub returns : goal.returns

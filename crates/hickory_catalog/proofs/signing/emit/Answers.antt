@@ -1,6 +1,6 @@
 use Rattle.hickory_base.specs.responses.Responses.{header_of}
 use Rattle.hickory_base.proofs.lemmas.responses.LentReplies.{given_by_empty, given_by_slice, reply_of_parts}
-use Rattle.hickory_catalog.proofs.SentReplies.{emitted, given_by_chain, not_emitted}
+use Rattle.hickory_catalog.proofs.lemmas.replies.SentReplies.{emitted, given_by_chain, not_emitted}
 use Rattle.hickory_catalog.proofs.signing.emit.Goals as goal
 
 pub returns-clause-written : goal.returns-clause-written

@@ -1,6 +1,6 @@
 use Rattle.std.proofs.Common.{refl}
-use Rattle.hickory_catalog.specs.Replies.{contents_of, unsigned_reply}
-use Rattle.hickory_catalog.specs.Signing.{plain}
+use Rattle.hickory_catalog.specs.replies.Replies.{contents_of, unsigned_reply}
+use Rattle.hickory_catalog.specs.replies.Signing.{plain}
 use Rattle.hickory_catalog.proofs.signing.send_signed.Goals as goal
 
 pub returns-in-Some-clause-replied : goal.returns-in-Some-clause-replied

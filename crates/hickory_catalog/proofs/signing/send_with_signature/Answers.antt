@@ -1,8 +1,8 @@
 use Rattle.std.proofs.Common.{◌≡◌, ℕ, Option, Some, None, refl}
 use Rattle.wire_messages.specs.op.EdnsFields.{EdnsFields}
-use Rattle.hickory_catalog.specs.Replies.{contents_of, error_reply, unsigned_reply}
-use Rattle.hickory_catalog.specs.ReplyEdns.{with_high_code}
-use Rattle.hickory_catalog.specs.Signing.{failed, signed}
+use Rattle.hickory_catalog.specs.replies.Replies.{contents_of, error_reply, unsigned_reply}
+use Rattle.hickory_catalog.specs.replies.ReplyEdns.{with_high_code}
+use Rattle.hickory_catalog.specs.replies.Signing.{failed, signed}
 use Rattle.hickory_catalog.proofs.signing.send_with_signature.Goals as goal
 
 -- the last code counts

@@ -1,5 +1,5 @@
-use Rattle.hickory_catalog.specs.Signing.{answered, unwritable}
-use Rattle.hickory_catalog.proofs.QueryReplies.{if_err_map, if_ok_map}
+use Rattle.hickory_catalog.specs.replies.Signing.{answered, unwritable}
+use Rattle.hickory_catalog.proofs.lemmas.queries.QueryReplies.{if_err_map, if_ok_map}
 use Rattle.hickory_catalog.proofs.signing.signature.Goals as goal
 
 pub returns-in-Ok-clause-signed : goal.returns-in-Ok-clause-signed

@@ -1,7 +1,7 @@
 use Rattle.std.proofs.Common.{◌<◌, ◌≤◌, length, inl, inr, arith}
 use Rattle.std.specs.Option.{option_copied}
-use Rattle.hickory_catalog.specs.Transfers.{size_without_answers}
-use Rattle.hickory_catalog.proofs.SentInOrder.{runs_ended, runs_start, runs_step, runs_whole}
+use Rattle.hickory_catalog.specs.transfers.Transfers.{size_without_answers}
+use Rattle.hickory_catalog.proofs.lemmas.replies.SentInOrder.{runs_ended, runs_start, runs_step, runs_whole}
 use Rattle.hickory_catalog.proofs.transfer_replies.send_runs.Goals as goal
 
 pub loop-len-init : goal.loop-len-init

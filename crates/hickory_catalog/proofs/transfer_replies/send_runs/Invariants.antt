@@ -1,7 +1,7 @@
 use Rattle.std.proofs.Common.{length}
 use Rattle.std.specs.Option.{option_copied}
-use Rattle.hickory_catalog.proofs.SentInOrder.{RunsSoFar}
-use Rattle.hickory_catalog.specs.Transfers.{size_without_answers}
+use Rattle.hickory_catalog.proofs.lemmas.replies.SentInOrder.{RunsSoFar}
+use Rattle.hickory_catalog.specs.transfers.Transfers.{size_without_answers}
 use Rattle.hickory_catalog.proofs.transfer_replies.send_runs.Given as goal
 
 -- the messages of the runs so far were taken, and the rest is to follow

@@ -1,8 +1,8 @@
 use Rattle.std.proofs.Common.{◌≡◌, ℕ, Option, Some, None, refl, subst}
 use Rattle.wire_messages.specs.op.EdnsFields.{EdnsFields}
 use Rattle.hickory_base.specs.declared.requests.message_request.MessageRequest.{MessageRequest}
-use Rattle.hickory_catalog.specs.ReplyEdns.{with_high_code}
-use Rattle.hickory_catalog.specs.Transfers.{AreRuns, size_without_answers}
+use Rattle.hickory_catalog.specs.replies.ReplyEdns.{with_high_code}
+use Rattle.hickory_catalog.specs.transfers.Transfers.{AreRuns, size_without_answers}
 use Rattle.hickory_catalog.proofs.transfer_replies.send_transfer.Goals as goal
 
 -- the high bits of a code take no room of their own

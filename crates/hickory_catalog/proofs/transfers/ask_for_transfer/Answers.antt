@@ -1,5 +1,5 @@
 use Rattle.std.proofs.Common.{arith, rules, refl}
-use Rattle.hickory_catalog.proofs.Transferring.{on_none, on_some, on_end}
+use Rattle.hickory_catalog.proofs.lemmas.transfers.TransfersFromPlace.{on_none, on_some, on_end}
 use Rattle.hickory_catalog.proofs.transfers.ask_for_transfer.Goals as goal
 
 pub loop-place-init : goal.loop-place-init

@@ -1,4 +1,4 @@
-use Rattle.hickory_catalog.proofs.Transferring.{TransferOn}
+use Rattle.hickory_catalog.proofs.lemmas.transfers.TransfersFromPlace.{TransferOn}
 use Rattle.hickory_catalog.proofs.transfers.ask_for_transfer.Given as goal
 
 abbrev pub invariant-loop-place : goal.invariant-loop-place

@@ -1,7 +1,7 @@
 use Rattle.std.proofs.Common.{rules, refl}
-use Rattle.hickory_catalog.specs.Replies.{error_reply}
-use Rattle.hickory_catalog.specs.Updates.{answered, no_apex, no_handler}
-use Rattle.hickory_catalog.proofs.QueryReplies.{if_ok_map}
+use Rattle.hickory_catalog.specs.replies.Replies.{error_reply}
+use Rattle.hickory_catalog.specs.updates.Updates.{answered, no_apex, no_handler}
+use Rattle.hickory_catalog.proofs.lemmas.queries.QueryReplies.{if_ok_map}
 use Rattle.hickory_catalog.proofs.updates.answer_update.Goals as goal
 
 pub returns-in-NoZone-clause-replied : goal.returns-in-NoZone-clause-replied

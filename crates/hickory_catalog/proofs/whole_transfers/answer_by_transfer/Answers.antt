@@ -1,9 +1,9 @@
 use Rattle.std.proofs.Common.{[], ◌∷◌, refl, rules}
 use Rattle.hickory_base.specs.responses.Responses.{header_of}
-use Rattle.hickory_catalog.specs.Replies.{error_reply}
-use Rattle.hickory_catalog.specs.WholeTransfers.{no_zone, other_count, zone}
-use Rattle.hickory_catalog.proofs.QueryReplies.{finds_none, finds_some, if_ok_map}
-use Rattle.hickory_catalog.proofs.SentInOrder.{sent_alone}
+use Rattle.hickory_catalog.specs.replies.Replies.{error_reply}
+use Rattle.hickory_catalog.specs.transfers.WholeTransfers.{no_zone, other_count, zone}
+use Rattle.hickory_catalog.proofs.lemmas.queries.QueryReplies.{finds_none, finds_some, if_ok_map}
+use Rattle.hickory_catalog.proofs.lemmas.replies.SentInOrder.{sent_alone}
 use Rattle.hickory_catalog.proofs.whole_transfers.answer_by_transfer.Goals as goal
 
 pub returns-in-Err-clause-replied : goal.returns-in-Err-clause-replied

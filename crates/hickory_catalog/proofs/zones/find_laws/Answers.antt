@@ -1,4 +1,4 @@
-use Rattle.hickory_catalog.proofs.OneAnswer.{one_answer}
+use Rattle.hickory_catalog.proofs.lemmas.zones.OneAnswer.{one_answer}
 use Rattle.hickory_catalog.proofs.zones.find_laws.Goals as goal
 
 pub returns-clause-one : goal.returns-clause-one

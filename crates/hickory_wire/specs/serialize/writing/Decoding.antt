@@ -18,21 +18,22 @@ use Rattle.wire_messages.specs.declared.rr.tsig.TSIG.{TSIG}
 abbrev pub without_proof : {R : Type 0} → Record R → Record R
 without_proof r = record r { proof = Indeterminate }
 
--- A record of a section that reads back as itself where it is written, but for its proof. That its numbers are such as its fields hold is seen to where
--- it is written.
+-- A record of a section that reads back as itself where it is written, but for its proof. That its numbers are such as
+-- its fields hold is seen to where it is written.
 pub record IsReadable (r : Record RData) : Type 0 where
   pub name : IsFullyQualified r.name
   pub rdata : IsReadAsItsType r.rdata
   pub section : IsPlainRecord r
 
--- the same of a TSIG
+-- a TSIG that is read as it is written
 pub record IsReadableSignature (r : Record TSIG) : Type 0 where
   pub name : IsFullyQualified r.name
   pub algorithm : IsFullyQualified r.rdata.algorithm
 
--- What is written of the reply reads back: its questions stand behind the header in just the bytes that are repeated, and none of their names leads
--- into the header; each record, where it is written, reads back as itself; no OPT, TSIG or SIG stands in a section. That the numbers of the header
--- and of EDNS are such as their fields hold is seen to where they are written, too.
+-- What is written of the reply reads back: its questions stand behind the header in just the bytes that are repeated,
+-- and none of their names leads into the header; each record, where it is written, reads back as itself; no OPT, TSIG
+-- or SIG stands in a section. That the numbers of the header and of EDNS are such as their fields hold is seen to where
+-- they are written, too.
 pub record IsDecodable (reply : Reply) (queries : List Query) : Type 0 where
   pub asked : ItemsAt (QuestionAt 12 (header_and_questions reply)) 12 queries (length (header_and_questions reply))
   pub questions : AllByRecursion IsFormedQuestion queries

@@ -13,7 +13,7 @@ abbrev pub middles : (limit : ℕ) (records : List (Record RData)) (old new : Li
 middles limit [] old new is = []
 middles limit (r ∷ rs) old new (middle, one, more) = middle ∷ middles limit rs middle new more
 
--- the same of records whose owner names repeat
+-- what stands behind each record, of records whose owner names repeat
 abbrev pub middles_repeating : (limit : ℕ) (records : List (Record RData)) (before : List OwnerPlace) (old new : List ℕ) → PutsRepeating limit before old records new → List (List ℕ)
 middles_repeating limit [] before old new is = []
 middles_repeating limit (r ∷ rs) before old new (middle, one, repeats, more) = middle ∷ middles_repeating limit rs _ middle new more

@@ -3,7 +3,7 @@ use Rattle.std.specs.Prelude.{◌≡◌, ℕ, ◌+◌, ◌<◌, ◌||◌, List, 
 use Rattle.std.specs.Borrow.{Bor}
 use Rattle.std.specs.Option.{option_copied}
 use Rattle.hickory_wire.specs.serialize.writing.Decoding.{IsDecodable, decoded_message}
-use Rattle.wire_writing.specs.serialize.writing.Endings.{GivesRecords}
+use Rattle.wire_writing.specs.representation.Endings.{GivesRecords}
 use Rattle.wire_reading.specs.serialize.layout.WholeMessage.{MessageAt}
 use Rattle.wire_reading.specs.serialize.reading.MessageReading.{Reads}
 use Rattle.wire_messages.specs.serialize.writing.Reply.{Reply, reply_lists}
@@ -60,7 +60,8 @@ header_by metadata question_count s = record {
   counts = record { queries = question_count; answers = s.answers; authorities = s.authorities; additionals = s.additionals };
 }
 
--- The lists of the reply are put behind old, and owner names that repeat are pointers. It is told what was written, and the fault, if one was met.
+-- The lists of the reply are put behind old, and owner names that repeat are pointers. It is told what was written, and
+-- the fault, if one was met.
 pub record WritesLists (limit : ℕ) (old : List ℕ) (reply : Reply) (new : List ℕ) (s : Sections) : Type 0 where
   pub fronts : Fronts
   pub lists : ListsWritten limit (reply_lists reply) old new (fronts_list fronts) s.stops.fault
@@ -75,8 +76,8 @@ pub record ReplyWritten (limit : ℕ) (reply : Reply) (bytes : List ℕ) (header
   pub stands : (queries : List Query) → IsDecodable reply queries → MessageAt bytes (decoded_message reply queries fronts)
   pub reads : (queries : List Query) → IsDecodable reply queries → Reads bytes (decoded_message reply queries fronts)
 
--- The bytes are the reply or what stands for it, this is their header, and what was written of a reply stands in them as a message and
--- reads back.
+-- The bytes are the reply or what stands for it, this is their header, and what was written of a reply stands in them
+-- as a message and reads back.
 pub record ReplyEncoded (limit : ℕ) (reply : Reply) (bytes : List ℕ) (header : Header) : Type 0 where
   pub encoded : Encoded limit reply bytes header
   pub stands : (fronts : Fronts) (queries : List Query) → Written limit reply bytes fronts → IsDecodable reply queries → MessageAt bytes (decoded_message reply queries fronts)

@@ -29,7 +29,8 @@ use wire_writing::serialize::writing::question_notes::note_question;
 // Room for most replies at once: what a reply over UDP may have without EDNS (RFC 1035 section 4.2.1).
 const FIRST_CAPACITY: usize = 512;
 
-/// What a reply is written of (RFC 1035 section 4.1): the four lists are iterators over records, and the rest is borrowed.
+/// What a reply is written of (RFC 1035 section 4.1): the four lists are iterators over records, and the rest is
+/// borrowed.
 #[derive(Drop)]
 pub struct ReplyParts<'q, A, N, S, D> {
     /// The header but for the counts, and the whole response code, of which the header has the low four bits.
@@ -61,7 +62,7 @@ struct Sections {
     stops: Stops,
 }
 
-// Whether header and questions fit the limit.
+/// Whether header and questions fit the limit.
 fn question_fits(limit: u16, len: usize) -> bool
     ensures { IsTrue result ↔ (12 + len ≤ limit) }
 {
@@ -69,7 +70,7 @@ fn question_fits(limit: u16, len: usize) -> bool
     limit >= 12 && len <= limit - 12
 }
 
-// Takes the records of all lists.
+/// Takes the records of all lists.
 #[inline(never)]
 fn drain_lists<'q, 'a, A, N, S, D>(parts: ReplyParts<'q, A, N, S, D>)
 where
@@ -101,7 +102,7 @@ where
     drain(additionals);
 }
 
-// Whether any of the lists may have a record, as far as it is known before they are taken.
+/// Whether any of the lists may have a record, as far as it is known before they are taken.
 fn may_have_records<A, N, S, D>(parts: &ReplyParts<'_, A, N, S, D>) -> bool
 where
     A: Iterator,
@@ -115,7 +116,8 @@ where
         || parts.additionals.size_hint().1 != Some(0)
 }
 
-// Puts the five lists behind header and questions. Where no list has a record, nothing could point to the question's name, and it is not noted.
+/// Puts the five lists behind header and questions. Where no list has a record, nothing could point to the question's
+/// name, and it is not noted.
 fn write_lists<'q, 'a, A, N, S, D>(
     bytes: &mut Vec<u8>,
     limit: u16,
@@ -137,14 +139,15 @@ where
         GivesLists A.next_gives N.next_gives S.next_gives D.next_gives parts.entry lists ×
         WritesLists limit bytes.old.items (reply_of parts.entry lists) bytes.new.items sections) }
     ensures header { OnOk result (12 ≤ length bytes.new.items) }
-    ensures in_range { IfOk result (λ sections. sections.stops.fault ≡ None → IfSome (option_copied parts.entry.edns) IsEdnsInRange) }
+    ensures in_range { IfOk result (λ sections. sections.stops.fault ≡ None →
+        IfSome (option_copied parts.entry.edns) IsEdnsInRange) }
 {
     let alloc = *bytes.allocator();
     // speed: served, an address; a table is wide, and this makes it where it stays
     write_lists_by(bytes, &mut CompressionTable::new(alloc), limit, parts)
 }
 
-// The same by a table, which has no notes.
+/// Writes the lists of a reply by a table, which has no notes.
 #[inline(always)]
 fn write_lists_by<'q: 'n, 'n, 'a: 'n, A, N, S, D>(
     bytes: &mut Vec<u8>,
@@ -169,32 +172,23 @@ where
         GivesLists A.next_gives N.next_gives S.next_gives D.next_gives parts.entry lists ×
         WritesLists limit bytes.old.items (reply_of parts.entry lists) bytes.new.items sections) }
     ensures header { OnOk result (12 ≤ length bytes.new.items) }
-    ensures in_range { IfOk result (λ sections. sections.stops.fault ≡ None → IfSome (option_copied parts.entry.edns) IsEdnsInRange) }
+    ensures in_range { IfOk result (λ sections. sections.stops.fault ≡ None →
+        IfSome (option_copied parts.entry.edns) IsEdnsInRange) }
 {
     let has_records = may_have_records(&parts);
-    let ReplyParts {
-        metadata: _,
-        question,
-        question_count: _,
-        edns,
-        answers,
-        authorities,
-        soa,
-        additionals,
-        signature,
-    } = parts;
     if has_records {
-        note_question(table, question);
+        note_question(table, parts.question);
     }
     let mut stops = Stops {
         is_cut: false,
         fault: None,
     };
-    let answers = write_list(bytes, table, limit, answers, &mut stops)?;
-    let authorities = write_list(bytes, table, limit, authorities.chain(soa), &mut stops)?;
-    let additionals = write_list(bytes, table, limit, additionals, &mut stops)?;
-    let opts = write_optional_edns(bytes, limit, edns, &mut stops)?;
-    let signatures = write_optional_signature(bytes, limit, signature, &mut stops)?;
+    let answers = write_list(bytes, table, limit, parts.answers, &mut stops)?;
+    let all_authorities = parts.authorities.chain(parts.soa);
+    let authorities = write_list(bytes, table, limit, all_authorities, &mut stops)?;
+    let additionals = write_list(bytes, table, limit, parts.additionals, &mut stops)?;
+    let opts = write_optional_edns(bytes, limit, parts.edns, &mut stops)?;
+    let signatures = write_optional_signature(bytes, limit, parts.signature, &mut stops)?;
     Ok(Sections {
         answers,
         authorities,
@@ -203,7 +197,7 @@ where
     })
 }
 
-// The header of what was written.
+/// The header of what was written.
 fn header_of(metadata: Metadata, question_count: u16, sections: Sections) -> Header
     ensures { result ≡ header_by metadata question_count sections }
 {
@@ -220,7 +214,7 @@ fn header_of(metadata: Metadata, question_count: u16, sections: Sections) -> Hea
     }
 }
 
-// Writes a reply. After an `Err` the bytes may end in a part of it.
+/// Writes a reply. After an `Err` the bytes may end in a part of it.
 fn write_reply<'q, 'a, A, N, S, D>(
     bytes: &mut Vec<u8>,
     limit: u16,
@@ -262,11 +256,12 @@ where
     Ok(header)
 }
 
-/// Writes a reply: header, questions, and five lists of records, each cut only before a record that in full passes the limit.
+/// Writes a reply: header, questions, and five lists of records, each cut only before a record that in full passes the
+/// limit.
 ///
 /// TC is set where a list was cut, and the counts are of what was written. `MaxSizeExceeded` says that header and
-/// questions pass the limit, `CharacterDataTooLong` and `DataTooLong` that a record was reached that has no form in bytes.
-/// After an `Err` the encoder's bytes are empty.
+/// questions pass the limit, `CharacterDataTooLong` and `DataTooLong` that a record was reached that has no form in
+/// bytes. After an `Err` the encoder's bytes are empty.
 pub fn emit_message_parts<'q, 'a, A, N, S, D>(
     encoder: &mut BinEncoder<'_>,
     parts: ReplyParts<'q, A, N, S, D>,
@@ -302,7 +297,7 @@ where
     done
 }
 
-// Writes the shortest reply there is, in the place of what the bytes hold.
+/// Writes the shortest reply there is, in the place of what the bytes hold.
 #[inline(never)]
 fn write_fallback(bytes: &mut Vec<u8>, id: u16) -> Result<Header, ProtoError>
     ensures written { IfOk result (λ header. (header ≡ fallback_header id) ×
@@ -323,8 +318,8 @@ fn write_fallback(bytes: &mut Vec<u8>, id: u16) -> Result<Header, ProtoError>
 
 /// The bytes of a reply, and their header.
 ///
-/// Where header and questions pass the limit, or a record is reached that has no form in bytes, the bytes are a header of
-/// the same id that says ServFail, and nothing else. Only want of memory is an `Err`.
+/// Where header and questions pass the limit, or a record is reached that has no form in bytes, the bytes are a header
+/// of the same id that says ServFail, and nothing else. Only want of memory is an `Err`.
 pub fn encode_message_parts<'q, 'a, A, N, S, D>(
     alloc: Global,
     limit: u16,

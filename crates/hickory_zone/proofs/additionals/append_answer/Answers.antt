@@ -3,7 +3,7 @@ use Rattle.std.proofs.lemmas.Bool.{false≢true}
 use Rattle.hickory_base.specs.zone_store.ZoneAnswers.{records_at}
 use Rattle.hickory_base.specs.zone_store.ZoneSets.{sets_of}
 use Rattle.hickory_zone.specs.Chains.{IsIn, owned_by}
-use Rattle.hickory_zone.specs.FoundRecords.{outcome_of}
+use Rattle.hickory_zone.specs.representation.FoundRecords.{outcome_of}
 use Rattle.hickory_zone.specs.Zones.{Answers, Records, Zone, answer, any_of, by_wildcard, wild_answer}
 use Rattle.hickory_zone.proofs.lemmas.replies.Hosts.{answer_put, in_any, in_wild_any, none_outside, nothing_else, nothing_to_put, on_ok}
 use Rattle.hickory_zone.proofs.additionals.append_answer.Goals as goal

@@ -1,10 +1,12 @@
-use Rattle.std.proofs.Common.{◌≡◌, refl, sym, ap, ◌∙◌, arith}
+use Rattle.std.proofs.Common.{◌≡◌, ◌⊎◌, true, false, refl, ap, subst, arith}
+use Rattle.wire_names.specs.rr.domain.DomainName.{DomainName}
+use Rattle.wire_names.specs.rr.domain.NameOrder.{Encloses, lower_name}
 use Rattle.hickory_base.specs.zone_store.ZoneSets.{sets_of}
-use Rattle.hickory_zone.specs.Chains.{owns_cname}
-use Rattle.hickory_zone.specs.ChainEnds.{Linked, ending_of}
+use Rattle.hickory_zone.specs.Chains.{IsIn, owns_cname}
+use Rattle.hickory_zone.specs.representation.ChainEnds.{Linked, ending_of}
 use Rattle.hickory_zone.specs.declared.chains.Link.TheVariants as link
-use Rattle.hickory_zone.specs.Zones.{Zone}
-use Rattle.hickory_zone.proofs.lemmas.replies.Follows.{LeadsTo, ends_here, ends_so, leads_back, leads_nowhere, leads_on, leads_outside}
+use Rattle.hickory_zone.specs.Zones.{Records, Zone}
+use Rattle.hickory_zone.proofs.lemmas.replies.Follows.{ends_here, ends_so, is_in, leads_no_further, leads_nowhere, leads_on}
 use Rattle.hickory_zone.proofs.lemmas.zones.Outcomes.{if_ok}
 use Rattle.hickory_zone.proofs.chains.+follow.Goals as goal
 
@@ -31,26 +33,18 @@ returns-in_default-2 t c =
     let zone : Zone = record { origin = c.args.origin.now; sets = sets_of c.args.sets.now } in
     let h : Linked zone c.args.record_type c.args.name.now c.args.answers.now.items c.append_link.new.answers.items (link.Leads c.in-Leads.to) = rw c.in-Leads.is at (c.in_ok-end.ensures zone refl c.requires.found) in
     let out = rw c.in_default-2.is at c.in_ok-next.ensures in
-    leads_outside zone c.args.record_type c.args.name.now c.args.answers.now.items c.append_link.new.answers.items c.in-Leads.to h c.in-Some.target c.in-Some.is c.args.left (out zone.sets)
-
-pub returns-then-owns_cname : goal.returns-then-owns_cname
-returns-then-owns_cname t c =
-    let zone : Zone = record { origin = c.args.origin.now; sets = sets_of c.args.sets.now } in
-    let h : Linked zone c.args.record_type c.args.name.now c.args.answers.now.items c.append_link.new.answers.items (link.Leads c.in-Leads.to) = rw c.in-Leads.is at (c.in_ok-end.ensures zone refl c.requires.found) in
-    let way = rw c.in-Some-2.is at c.in_ok-next.ensures in
-    let next = c.in-Some-2.next.name in
-    let to : LeadsTo zone c.in-Some.target next = record { lower = ap (λ k. k.name) way.0; qualified = way.1; within = way.2 } in
-    let seen : owns_cname next c.append_link.new.answers.items ≡ c.owns_cname.result = sym (c.owns_cname.ensures ∙ ap (owns_cname next) c.as_slice.ensures.value) in
-    leads_back zone c.args.record_type c.args.name.now c.args.answers.now.items c.append_link.new.answers.items c.in-Leads.to h c.in-Some.target c.in-Some.is next to c.args.left (seen ∙ c.if-owns_cname.true)
+    leads_no_further zone c.args.record_type c.args.name.now c.args.answers.now.items c.append_link.new.answers.items c.in-Leads.to h c.in-Some.target c.in-Some.is c.args.left
+    (subst (λ (rs : Records). ¬ (IsIn zone c.in-Some.target) ⊎ (owns_cname (lower_name c.in-Some.target) rs ≡ true)) c.as_slice.ensures.value (out zone.sets))
 
 pub returns : goal.returns
 returns t c =
     let zone : Zone = record { origin = c.args.origin.now; sets = sets_of c.args.sets.now } in
     let h : Linked zone c.args.record_type c.args.name.now c.args.answers.now.items c.append_link.new.answers.items (link.Leads c.in-Leads.to) = rw c.in-Leads.is at (c.in_ok-end.ensures zone refl c.requires.found) in
     let way = rw c.in-Some-2.is at c.in_ok-next.ensures in
-    let next = c.in-Some-2.next.name in
-    let to : LeadsTo zone c.in-Some.target next = record { lower = ap (λ k. k.name) way.0; qualified = way.1; within = way.2 } in
-    let seen : owns_cname next c.append_link.new.answers.items ≡ c.owns_cname.result = sym (c.owns_cname.ensures ∙ ap (owns_cname next) c.as_slice.ensures.value) in
+    let name : c.in-Some-2.next.name ≡ lower_name c.in-Some.target = ap (λ k. k.name) way.0 in
+    let within : IsIn zone c.in-Some.target = is_in zone c.in-Some.target way.1 (subst (λ (n : DomainName). Encloses zone.origin.labels n.labels) name way.2) in
+    let apart : owns_cname (lower_name c.in-Some.target) c.append_link.new.answers.items ≡ false =
+    subst (λ (n : DomainName). owns_cname n c.append_link.new.answers.items ≡ false) name (subst (λ (rs : Records). owns_cname c.in-Some-2.next.name rs ≡ false) c.as_slice.ensures.value way.3) in
     if_ok c.follow.result _ _ c.follow.ensures
-    (λ end x. leads_on zone c.args.record_type c.args.name.now c.args.answers.now.items c.append_link.new.answers.items c.in-Leads.to h c.in-Some.target c.in-Some.is next to c.args.left c.follow.new.answers.items (ending_of end)
-    (λ zeros. absurd (omega arith)) (seen ∙ c.if-owns_cname.false) x)
+    (λ end x. leads_on zone c.args.record_type c.args.name.now c.args.answers.now.items c.append_link.new.answers.items c.in-Leads.to h c.in-Some.target c.in-Some.is c.args.left c.follow.new.answers.items (ending_of end)
+    (λ zeros. absurd (omega arith)) within apart x)

@@ -1,6 +1,6 @@
 -- So far each `*` has so many octets behind it.
 use Rattle.std.proofs.Common.{◌≡◌, ◌<◌, ◌-◌, ℕ, get_or, length}
-use Rattle.hickory_zone.specs.Features.{IsOfLength}
+use Rattle.hickory_zone.specs.representation.Features.{IsOfLength}
 use Rattle.hickory_zone.proofs.features.are_stars_within.Given as goal
 
 abbrev pub invariant-loop-i : goal.invariant-loop-i

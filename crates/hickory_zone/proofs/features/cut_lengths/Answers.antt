@@ -4,7 +4,7 @@ use Rattle.hickory_base.proofs.lemmas.zone_store.ZoneByName.{keys-shared}
 use Rattle.hickory_base.specs.zone_store.ZoneSets.{sets_of}
 use Rattle.wire_names.proofs.lemmas.rr.domain.WireForm.{wire_short}
 use Rattle.hickory_zone.proofs.lemmas.zones.Features.{cut_of_length, none_cut}
-use Rattle.hickory_zone.specs.Features.{CutsNothing, CutsWithin}
+use Rattle.hickory_zone.specs.representation.Features.{CutsNothing, CutsWithin}
 use Rattle.hickory_zone.specs.Zones.{Zone}
 use Rattle.hickory_zone.proofs.features.cut_lengths.Goals as goal
 

@@ -4,7 +4,7 @@ use Rattle.std.specs.Prelude.{not}
 use Rattle.hickory_base.proofs.lemmas.zone_store.ZoneByName.{keys-shared}
 use Rattle.hickory_base.specs.zone_store.ZoneSets.{sets_of}
 use Rattle.hickory_zone.proofs.lemmas.zones.Features.{none_redirecting}
-use Rattle.hickory_zone.specs.Features.{IsNoDname}
+use Rattle.hickory_zone.specs.representation.Features.{IsNoDname}
 use Rattle.hickory_zone.specs.Zones.{Zone}
 use Rattle.hickory_zone.proofs.features.features_of.Goals as goal
 

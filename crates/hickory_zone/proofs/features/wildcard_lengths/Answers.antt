@@ -4,7 +4,7 @@ use Rattle.hickory_base.proofs.lemmas.zone_store.ZoneByName.{keys-shared}
 use Rattle.hickory_base.specs.zone_store.ZoneSets.{sets_of}
 use Rattle.wire_names.proofs.lemmas.rr.domain.WireForm.{wire_short}
 use Rattle.hickory_zone.proofs.lemmas.zones.Features.{none_wild, wild_of_length}
-use Rattle.hickory_zone.specs.Features.{IsStarless, IsWildWithin}
+use Rattle.hickory_zone.specs.representation.Features.{IsStarless, IsWildWithin}
 use Rattle.hickory_zone.proofs.features.wildcard_lengths.Goals as goal
 
 pub returns-then-are_starless : goal.returns-then-are_starless

@@ -1,7 +1,7 @@
 use Rattle.std.proofs.Common.{subst, ◌∙◌}
 use Rattle.std.proofs.lemmas.List.{get_or_default}
 use Rattle.hickory_zone.proofs.lemmas.zones.MoreFeatures.{covers_next, includes_via}
-use Rattle.hickory_zone.specs.Features.{Covers}
+use Rattle.hickory_zone.specs.representation.Features.{Covers}
 use Rattle.hickory_zone.proofs.features.with_records.Goals as goal
 
 pub loop-i-preserved : goal.loop-i-preserved

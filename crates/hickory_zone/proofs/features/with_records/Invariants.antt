@@ -3,7 +3,7 @@ use Rattle.std.proofs.Common.{◌<◌, ℕ}
 use Rattle.std.specs.List.{slice_index_or}
 use Rattle.wire_messages.specs.declared.rr.rdata.RData.{RData}
 use Rattle.wire_messages.specs.declared.rr.record.Record.{Record}
-use Rattle.hickory_zone.specs.Features.{Covers, Includes}
+use Rattle.hickory_zone.specs.representation.Features.{Covers, Includes}
 use Rattle.hickory_zone.proofs.features.with_records.Given as goal
 
 abbrev pub invariant-loop-i : goal.invariant-loop-i

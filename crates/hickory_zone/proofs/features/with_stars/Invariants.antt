@@ -1,6 +1,6 @@
 -- So far each `*` has so many octets behind it, and no length was lost.
 use Rattle.std.proofs.Common.{◌≡◌, ◌<◌, ◌-◌, ℕ, get_or, length}
-use Rattle.hickory_zone.specs.Features.{AreAmong, IsOfLength}
+use Rattle.hickory_zone.specs.representation.Features.{AreAmong, IsOfLength}
 use Rattle.hickory_zone.proofs.features.with_stars.Given as goal
 
 abbrev pub invariant-loop-i : goal.invariant-loop-i

@@ -3,7 +3,7 @@ use Rattle.std.proofs.Common.{◌≡◌}
 use Rattle.std.specs.Option.{option_copied}
 use Rattle.hickory_base.specs.zone_store.ZoneSets.{sets_of}
 use Rattle.hickory_zone.specs.Zones.{rrset}
-use Rattle.hickory_zone.specs.FoundRecords.{first_or}
+use Rattle.hickory_zone.specs.representation.FoundRecords.{first_or}
 use Rattle.hickory_zone.proofs.lemmas.zones.Nodes.{in_front}
 use Rattle.hickory_zone.proofs.find.addresses_at.Given as goal
 

@@ -1,7 +1,7 @@
 use Rattle.std.proofs.Common.{sym, subst}
 use Rattle.std.specs.Option.{option_copied}
 use Rattle.hickory_zone.proofs.lemmas.zones.Beside.{tells}
-use Rattle.hickory_zone.specs.KeysBeside.{IsLast}
+use Rattle.hickory_zone.specs.representation.KeysBeside.{IsLast}
 use Rattle.hickory_zone.proofs.find.beside.Goals as goal
 use Rattle.hickory_zone.proofs.find.beside.Goals.{in-Some, in-None}
 

@@ -1,6 +1,6 @@
 use Rattle.std.proofs.Common.{◌≡◌, refl, subst, sym}
 use Rattle.hickory_base.specs.zone_store.ZoneSets.{sets_of}
-use Rattle.hickory_zone.specs.FoundRecords.{IsEncloser, Tells}
+use Rattle.hickory_zone.specs.representation.FoundRecords.{IsEncloser, Tells}
 use Rattle.hickory_zone.specs.Zones.{Exists, ancestor}
 use Rattle.hickory_zone.proofs.find.encloser_beside.Goals as goal
 

@@ -1,7 +1,7 @@
 use Rattle.std.proofs.Common.{◌≡◌, false, sym, ◌∙◌}
 use Rattle.std.proofs.lemmas.Bool.{false≢true}
 use Rattle.hickory_zone.proofs.lemmas.zones.Outcomes.{above_cut, referred, uncut}
-use Rattle.hickory_zone.specs.FoundRecords.{outcome_of}
+use Rattle.hickory_zone.specs.representation.FoundRecords.{outcome_of}
 use Rattle.hickory_zone.specs.Zones.{at_node}
 use Rattle.hickory_zone.proofs.find.find_existing.Goals as goal
 use Rattle.hickory_zone.proofs.find.find_existing.Goals.{in-Some+else-not-stands_above, in_default}

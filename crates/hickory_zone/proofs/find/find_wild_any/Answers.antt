@@ -1,7 +1,7 @@
 use Rattle.std.proofs.Common.{sym, ap, subst, ◌∙◌}
 use Rattle.std.specs.Option.{option_copied}
 use Rattle.hickory_zone.proofs.lemmas.zones.Every.{none_of_another, none_there, same_records}
-use Rattle.hickory_zone.specs.KeysBeside.{StandsBehind}
+use Rattle.hickory_zone.specs.representation.KeysBeside.{StandsBehind}
 use Rattle.hickory_zone.specs.Zones.{any_of, by_wildcard}
 use Rattle.hickory_zone.proofs.find.find_wild_any.Goals as goal
 

@@ -5,7 +5,7 @@ use Rattle.hickory_zone.specs.declared.find.Found.{Found}
 use Rattle.hickory_zone.proofs.lemmas.zones.CutsAbove.{above_encloser, refers}
 use Rattle.hickory_zone.proofs.lemmas.zones.Outcomes.{below_encloser, is_above}
 use Rattle.hickory_zone.proofs.lemmas.zones.Redirected.{as_direct, as_redirected, from_encloser}
-use Rattle.hickory_zone.specs.FoundRecords.{CutAbove, WildFound}
+use Rattle.hickory_zone.specs.representation.FoundRecords.{CutAbove, WildFound}
 use Rattle.hickory_zone.specs.Zones.{Zone, direct}
 use Rattle.hickory_zone.proofs.find.found_below.Goals as goal
 

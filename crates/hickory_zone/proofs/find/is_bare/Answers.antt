@@ -1,8 +1,8 @@
 use Rattle.std.proofs.Common.{ap, subst, sym, ◌∙◌}
 use Rattle.std.specs.Option.{option_copied}
 use Rattle.std.proofs.lemmas.Bool.{false≢true}
-use Rattle.hickory_zone.specs.Features.{IsOfLength}
-use Rattle.hickory_zone.specs.FoundRecords.{IsAbove}
+use Rattle.hickory_zone.specs.representation.Features.{IsOfLength}
+use Rattle.hickory_zone.specs.representation.FoundRecords.{IsAbove}
 use Rattle.hickory_zone.specs.Zones.{ancestor}
 use Rattle.hickory_zone.proofs.find.is_bare.Goals as goal
 

@@ -1,7 +1,7 @@
 use Rattle.std.proofs.Common.{◌≡◌, ◌+◌, false, sym, ap, ◌∙◌}
 use Rattle.std.proofs.lemmas.Bool.{false≢true}
 use Rattle.std.specs.Option.{option_copied}
-use Rattle.hickory_zone.specs.FoundRecords.{IsAbove}
+use Rattle.hickory_zone.specs.representation.FoundRecords.{IsAbove}
 use Rattle.hickory_zone.specs.Zones.{ancestor}
 use Rattle.hickory_zone.proofs.lemmas.names.Enclosers.{ancestor-ancestor, none_at_all, none_more}
 use Rattle.hickory_zone.proofs.find.keep_closest_encloser.Goals as goal

@@ -1,6 +1,6 @@
 -- Labels were taken off, and no name so far exists.
 use Rattle.std.proofs.Common.{◌≡◌, ℕ, ◌<◌, length}
-use Rattle.hickory_zone.specs.FoundRecords.{Tells}
+use Rattle.hickory_zone.specs.representation.FoundRecords.{Tells}
 use Rattle.hickory_zone.specs.Zones.{Exists, Sets, ancestor}
 use Rattle.hickory_zone.proofs.find.keep_closest_encloser.Given as goal
 

@@ -8,7 +8,7 @@ use Rattle.hickory_base.specs.zone_store.ZoneSets.{sets_of}
 use Rattle.hickory_zone.proofs.lemmas.zones.Missing.{answered_bare, none_wild}
 use Rattle.hickory_zone.proofs.lemmas.zones.Wild.{told}
 use Rattle.hickory_zone.proofs.lemmas.zones.WildBeside.{answered_wild}
-use Rattle.hickory_zone.specs.FoundRecords.{IsBare}
+use Rattle.hickory_zone.specs.representation.FoundRecords.{IsBare}
 use Rattle.hickory_zone.specs.Zones.{Answers, Exists, Zone, ancestor}
 use Rattle.hickory_zone.proofs.find.look_above.Goals as goal
 

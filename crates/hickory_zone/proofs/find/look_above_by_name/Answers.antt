@@ -4,7 +4,7 @@ use Rattle.hickory_base.specs.zone_store.ZoneSets.{sets_of}
 use Rattle.hickory_zone.proofs.lemmas.zones.Missing.{encloser}
 use Rattle.hickory_zone.proofs.lemmas.zones.Outcomes.{within}
 use Rattle.hickory_zone.proofs.lemmas.zones.Wild.{told}
-use Rattle.hickory_zone.specs.FoundRecords.{IsEncloser}
+use Rattle.hickory_zone.specs.representation.FoundRecords.{IsEncloser}
 use Rattle.hickory_zone.specs.Zones.{Zone, ancestor}
 use Rattle.hickory_zone.proofs.find.look_above_by_name.Goals as goal
 

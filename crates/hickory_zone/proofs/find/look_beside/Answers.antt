@@ -1,7 +1,7 @@
 use Rattle.hickory_base.specs.zone_store.ZoneSets.{sets_of}
 use Rattle.hickory_zone.proofs.lemmas.zones.Outcomes.{nothing, within}
 use Rattle.hickory_zone.proofs.lemmas.zones.Redirected.{nothing_redirects}
-use Rattle.hickory_zone.specs.FoundRecords.{IsEncloser}
+use Rattle.hickory_zone.specs.representation.FoundRecords.{IsEncloser}
 use Rattle.hickory_zone.specs.Zones.{Zone, direct}
 use Rattle.hickory_zone.proofs.find.look_beside.Goals as goal
 

@@ -4,7 +4,7 @@ use Rattle.std.proofs.lemmas.Bool.{false≢true}
 use Rattle.hickory_base.specs.zone_store.ZoneSets.{sets_of}
 use Rattle.hickory_zone.proofs.lemmas.zones.CutsAbove.{undirected}
 use Rattle.hickory_zone.proofs.lemmas.zones.Owners.{exists_behind}
-use Rattle.hickory_zone.specs.FoundRecords.{CutAbove}
+use Rattle.hickory_zone.specs.representation.FoundRecords.{CutAbove}
 use Rattle.hickory_zone.specs.Zones.{Zone}
 use Rattle.hickory_zone.proofs.find.look_up_by.Goals as goal
 

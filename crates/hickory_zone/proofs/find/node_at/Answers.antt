@@ -3,7 +3,7 @@ use Rattle.std.specs.Option.{option_copied}
 use Rattle.hickory_base.specs.zone_store.ZoneSets.{has_name, sets_of}
 use Rattle.hickory_zone.specs.Zones.{Records, rrset}
 use Rattle.hickory_zone.proofs.lemmas.zones.Nodes.{first_met, front_is, in_front, key_met, met_at_break, none_met, walks_on}
-use Rattle.hickory_zone.specs.KeysBeside.{IsFirst}
+use Rattle.hickory_zone.specs.representation.KeysBeside.{IsFirst}
 use Rattle.hickory_zone.proofs.find.node_at.Goals as goal
 use Rattle.hickory_zone.proofs.find.node_at.Goals.{in-None, in-Some+then-ne}
 

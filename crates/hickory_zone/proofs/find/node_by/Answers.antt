@@ -3,7 +3,7 @@ use Rattle.std.specs.Prelude.{IfSome}
 use Rattle.std.specs.List.{Contains}
 use Rattle.std.specs.Option.{option_copied}
 use Rattle.hickory_base.specs.zone_store.ZoneSets.{sets_of}
-use Rattle.hickory_zone.specs.Indexes.{IsIndexOf}
+use Rattle.hickory_zone.specs.representation.Indexes.{IsIndexOf}
 use Rattle.hickory_zone.proofs.lemmas.zones.Indexed.{among_sets}
 use Rattle.hickory_zone.proofs.find.node_by.Goals as goal
 

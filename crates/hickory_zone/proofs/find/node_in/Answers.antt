@@ -5,7 +5,7 @@ use Rattle.hickory_base.specs.zone_store.ZoneSets.{has_name, shared_sets}
 use Rattle.hickory_zone.specs.Zones.{Records, rrset}
 use Rattle.hickory_zone.proofs.lemmas.zones.Indexed.{behind_in, in_turn}
 use Rattle.hickory_zone.proofs.lemmas.zones.Nodes.{first_met, front_is, key_met, met_at_break, none_met, walks_on}
-use Rattle.hickory_zone.specs.KeysBeside.{Entry, IsFirst}
+use Rattle.hickory_zone.specs.representation.KeysBeside.{Entry, IsFirst}
 use Rattle.hickory_zone.proofs.find.node_in.Goals as goal
 use Rattle.hickory_zone.proofs.find.node_in.Goals.{else-loop-key-test, then-loop-key-test+then-ne}
 

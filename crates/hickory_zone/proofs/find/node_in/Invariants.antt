@@ -2,9 +2,9 @@
 use Rattle.std.proofs.Common.{◌≡◌, drop}
 use Rattle.std.specs.Option.{option_copied}
 use Rattle.hickory_base.specs.zone_store.ZoneSets.{shared_sets}
-use Rattle.hickory_zone.specs.KeysBeside.{IsFirst}
+use Rattle.hickory_zone.specs.representation.KeysBeside.{IsFirst}
 use Rattle.hickory_zone.specs.Zones.{rrset}
-use Rattle.hickory_zone.specs.FoundRecords.{first_or}
+use Rattle.hickory_zone.specs.representation.FoundRecords.{first_or}
 use Rattle.hickory_zone.proofs.lemmas.zones.Nodes.{in_front, key_or}
 use Rattle.hickory_zone.proofs.find.node_in.Given as goal
 

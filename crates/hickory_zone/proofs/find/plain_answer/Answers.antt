@@ -3,9 +3,10 @@ use Rattle.std.specs.Option.{option_copied}
 use Rattle.std.specs.Prelude.{◌≢◌, IfSome, is_some}
 use Rattle.std.proofs.lemmas.Bool.{false≢true}
 use Rattle.wire_names.specs.rr.domain.DomainName.{DomainName}
+use Rattle.wire_messages.specs.Numbers.{type_any}
 use Rattle.hickory_zone.proofs.lemmas.zones.Outcomes.{at_one, owns}
-use Rattle.hickory_zone.specs.FoundRecords.{CutAbove}
-use Rattle.hickory_zone.specs.Zones.{Answers, AnswersDirectly, HasDname, IsCut, Records, Zone, ancestor, answer, at_node, direct, matched, of_sets, rrset, type_any}
+use Rattle.hickory_zone.specs.representation.FoundRecords.{CutAbove}
+use Rattle.hickory_zone.specs.Zones.{Answers, AnswersDirectly, HasDname, IsCut, Records, Zone, ancestor, answer, at_node, direct, matched, of_sets, rrset}
 use Rattle.hickory_zone.proofs.find.plain_answer.Goals as goal
 
 module _ (zone : Zone) (name : DomainName) (above : CutAbove zone name None) (own : None ≡ rrset zone.sets name 2) where

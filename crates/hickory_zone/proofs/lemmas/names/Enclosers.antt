@@ -6,7 +6,7 @@ use Rattle.std.proofs.lemmas.List.{drop-drop}
 use Rattle.std.specs.Option.{option_copied}
 use Rattle.wire_names.specs.rr.domain.DomainName.{DomainName}
 use Rattle.hickory_zone.specs.declared.find.Neighbours.{Neighbours}
-use Rattle.hickory_zone.specs.FoundRecords.{IsAbove, Tells}
+use Rattle.hickory_zone.specs.representation.FoundRecords.{IsAbove, Tells}
 use Rattle.hickory_zone.specs.Zones.{Exists, Sets, ancestor}
 
 pub ancestor-ancestor : (name : DomainName) (j k : ℕ) → ancestor (ancestor name k) j ≡ ancestor name (k + j)

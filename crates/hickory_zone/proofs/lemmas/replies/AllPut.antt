@@ -10,7 +10,7 @@ use Rattle.hickory_zone.specs.Chains.{not_yet, once, owned_by, owns_dname, redir
 use Rattle.hickory_zone.specs.declared.chains.ChainEnd.TheVariants as at
 use Rattle.hickory_zone.specs.declared.chains.Link.{Link}
 use Rattle.hickory_zone.specs.declared.chains.Link.TheVariants as link
-use Rattle.hickory_zone.specs.ChainEnds.{IsAllPut, IsStep, Linked, any_link, step_by}
+use Rattle.hickory_zone.specs.representation.ChainEnds.{IsAllPut, IsStep, Linked, any_link, step_by}
 use Rattle.hickory_zone.specs.Zones.{Answers, Outcome, Records, Zone, answer, any_of, by_wildcard, no_data, redirection, wild_answer}
 
 ends_as : (rs : Records) (old new : Records) (more : Bool) → new ≡ old ++ rs → more ≡ nat_lt (length old) (length new) → cond more (link.End at.Answer) (link.End at.NoData) ≡ any_link rs

@@ -3,6 +3,7 @@ use Rattle.std.proofs.Common.{◌≡◌, ◌==◌, ℕ, Bool, true, false, not, 
 use Rattle.std.specs.Prelude.{is_some}
 use Rattle.std.specs.List.{AllByRecursion}
 use Rattle.wire_names.specs.rr.domain.DomainName.{DomainName}
+use Rattle.wire_messages.specs.Numbers.{code_no_error, code_nx_domain, type_mx, type_ns}
 use Rattle.wire_messages.specs.declared.rr.rdata.RData.{RData}
 use Rattle.wire_messages.specs.declared.rr.rdata.RData.TheVariants as rdata
 use Rattle.wire_messages.specs.declared.rr.record.Record.{Record}
@@ -10,9 +11,9 @@ use Rattle.hickory_base.specs.declared.zone_store.lookup.WholeReply.{WholeReply}
 use Rattle.hickory_zone.specs.declared.additionals.Source.TheVariants as source
 use Rattle.hickory_zone.specs.Additionals.{AreAdditionals, at_most_one, host_in, hosts_of, is_hostless, name_from, no_host, target_start}
 use Rattle.hickory_zone.specs.Endings as ended
-use Rattle.hickory_zone.specs.ReplyAtOnce.{IsReplyAtOnce}
+use Rattle.hickory_zone.specs.representation.ReplyAtOnce.{IsReplyAtOnce}
 use Rattle.hickory_zone.specs.Replies.{denial_soa, whole}
-use Rattle.hickory_zone.specs.Zones.{Records, Zone, answer, no_data, no_name, type_mx, type_ns}
+use Rattle.hickory_zone.specs.Zones.{Records, Zone, answer, no_data, no_name}
 
 last_false : (a b c : Bool) → not (a || (b || c)) ≡ true → c ≡ false
 last_false true b c h = absurd cc
@@ -44,7 +45,7 @@ no_hosts [] h = refl
 no_hosts (r ∷ rs) h = ap (λ o. at_most_one o ++ hosts_of rs) (none_in r.rdata h.0) ∙ no_hosts rs h.1
 
 module _ (zone : Zone) (t : ℕ) (name : DomainName) (reply : WholeReply) where
-  pub of_records : (rs : Records) → AllByRecursion (λ (q : Record RData). is_hostless q.rdata ≡ true) rs → reply ≡ whole 0 true rs [] [] → IsReplyAtOnce zone t name (answer rs) reply
+  pub of_records : (rs : Records) → AllByRecursion (λ (q : Record RData). is_hostless q.rdata ≡ true) rs → reply ≡ whole code_no_error true rs [] [] → IsReplyAtOnce zone t name (answer rs) reply
   of_records rs h is = record {
     chain = rs;
     ending = ended.answer;
@@ -52,8 +53,8 @@ module _ (zone : Zone) (t : ℕ) (name : DomainName) (reply : WholeReply) where
     ends_in = record { additionals = []; completed = subst (λ (ns : List DomainName). AreAdditionals source.Answer zone rs ns []) (sym (no_hosts rs h)) no_host; is = is };
   }
 
-  pub of_no_data : (soa : Records) → soa ≡ denial_soa zone → reply ≡ whole 0 true [] soa [] → IsReplyAtOnce zone t name no_data reply
-  of_no_data soa own is = record { chain = []; ending = ended.no_data; steps = refl; ends_in = record { additionals = []; completed = refl; is = is ∙ ap (λ (rs : Records). whole 0 true [] rs []) own } }
+  pub of_no_data : (soa : Records) → soa ≡ denial_soa zone → reply ≡ whole code_no_error true [] soa [] → IsReplyAtOnce zone t name no_data reply
+  of_no_data soa own is = record { chain = []; ending = ended.no_data; steps = refl; ends_in = record { additionals = []; completed = refl; is = is ∙ ap (λ (rs : Records). whole code_no_error true [] rs []) own } }
 
-  pub of_no_name : (soa : Records) → soa ≡ denial_soa zone → reply ≡ whole 3 true [] soa [] → IsReplyAtOnce zone t name no_name reply
-  of_no_name soa own is = record { chain = []; ending = ended.no_name; steps = refl; ends_in = record { additionals = []; completed = refl; is = is ∙ ap (λ (rs : Records). whole 3 true [] rs []) own } }
+  pub of_no_name : (soa : Records) → soa ≡ denial_soa zone → reply ≡ whole code_nx_domain true [] soa [] → IsReplyAtOnce zone t name no_name reply
+  of_no_name soa own is = record { chain = []; ending = ended.no_name; steps = refl; ends_in = record { additionals = []; completed = refl; is = is ∙ ap (λ (rs : Records). whole code_nx_domain true [] rs []) own } }

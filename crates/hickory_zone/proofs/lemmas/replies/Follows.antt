@@ -1,5 +1,5 @@
 -- Links of a chain put together.
-use Rattle.std.proofs.Common.{◌≡◌, ℕ, Bool, List, ◌-◌, ◌||◌, ◌&&◌, suc, true, false, [], ◌∷◌, ◌++◌, Option, None, Some, refl, sym, ap, subst, ◌∙◌, arith, append_assoc}
+use Rattle.std.proofs.Common.{◌≡◌, ◌⊎◌, ℕ, Bool, List, ◌-◌, ◌||◌, ◌&&◌, suc, true, false, [], ◌∷◌, ◌++◌, Option, None, Some, inl, inr, refl, sym, ap, subst, ◌∙◌, arith, append_assoc}
 use Rattle.std.specs.Option.{IsSomeAnd}
 use Rattle.std.specs.Ordering.{is_eq}
 use Rattle.wire_names.specs.rr.domain.DomainName.{DomainName}
@@ -10,7 +10,7 @@ use Rattle.hickory_base.specs.zone_store.ZoneRecords.{is_at}
 use Rattle.hickory_zone.specs.Chains.{Chases, IsIn, comes_back, finishes, follows, is_cname, leads, leaves, owns_cname, stops}
 use Rattle.hickory_zone.specs.Endings.{Ending}
 use Rattle.hickory_zone.specs.Endings as ended
-use Rattle.hickory_zone.specs.ChainEnds.{Chased, Linked, ending_of}
+use Rattle.hickory_zone.specs.representation.ChainEnds.{ChainPlace, Chased, Linked, ending_of}
 use Rattle.hickory_zone.specs.declared.chains.ChainEnd.{ChainEnd}
 use Rattle.hickory_zone.specs.declared.chains.Link.TheVariants as link
 use Rattle.hickory_zone.specs.Zones.{Records, Zone}
@@ -30,49 +30,47 @@ own_alike a b (r ∷ rs) s = ap (λ x. x && is_cname r.rdata || owns_cname a rs)
 lowered : (name : DomainName) → SameName (lower_name name) name
 lowered name = record { labels = lower_labels-twice name.labels; marks = refl }
 
+abbrev pub place : DomainName → ℕ → ℕ → ChainPlace
+place name t left = record { name = name; record_type = t; left = left }
+
 -- the last link of a chain
-pub ends_so : (zone : Zone) (t : ℕ) (name : DomainName) (old new : Records) (end : ChainEnd) → Linked zone t name old new (link.End end) → (left : ℕ) → Chased zone t left name old new (ending_of end)
+pub ends_so : (zone : Zone) (t : ℕ) (name : DomainName) (old new : Records) (end : ChainEnd) → Linked zone t name old new (link.End end) → (left : ℕ) → Chased zone (place name t left) old new (ending_of end)
 ends_so zone t name old new end h left = record { added = h.gained.added; put = h.gained.put; chases = finishes h.says h.gained.is }
 
--- where a chain leads that goes on in the zone
-pub record LeadsTo (zone : Zone) (target next : DomainName) : Type 0 where
-  pub lower : next ≡ lower_name target
-  pub qualified : target.is_fqdn ≡ true
-  pub within : Encloses zone.origin.labels next.labels
+-- the name is in the zone, as its labels in lower case tell
+pub is_in : (zone : Zone) (name : DomainName) → name.is_fqdn ≡ true → Encloses zone.origin.labels (lower_labels name.labels) → IsIn zone name
+is_in zone name qualified within = record { qualified = qualified; within = lower_enclosed zone.origin.labels name.labels within }
 
 module _ (zone : Zone) (t : ℕ) (name : DomainName) (old new : Records) (to : Option DomainName) (h : Linked zone t name old new (link.Leads to)) where
   abbrev added : Records
   added = h.gained.added
 
-  pub ends_here : (left : ℕ) → left ≡ 0 → Chased zone t left name old new ended.left_open
+  pub ends_here : (left : ℕ) → left ≡ 0 → Chased zone (place name t left) old new ended.left_open
   ends_here left e = record { added = added; put = h.gained.put; chases = subst (λ n. Chases zone t n old name added ended.left_open) (sym e) (stops h.says h.gained.is) }
 
-  pub leads_out : (left : ℕ) → ¬ (IsSomeAnd to (IsIn zone)) → Chased zone t left name old new ended.left_open
+  leads_out : (left : ℕ) → ¬ (IsSomeAnd to (IsIn zone)) → Chased zone (place name t left) old new ended.left_open
   leads_out left out = record { added = added; put = h.gained.put; chases = leaves h.says h.gained.is out }
 
-  pub leads_nowhere : (left : ℕ) → to ≡ None → Chased zone t left name old new ended.left_open
+  pub leads_nowhere : (left : ℕ) → to ≡ None → Chased zone (place name t left) old new ended.left_open
   leads_nowhere left none = leads_out left (subst (λ o. ¬ (IsSomeAnd o (IsIn zone))) (sym none) (λ x. x))
 
   module _ (target : DomainName) (is : to ≡ Some target) where
-    pub leads_outside : (left : ℕ) → ¬ (IsIn zone target) → Chased zone t left name old new ended.left_open
-    leads_outside left out = leads_out left (subst (λ o. ¬ (IsSomeAnd o (IsIn zone))) (sym is) out)
+    -- whether the chain was at the next name
+    been : (b : Bool) → owns_cname (lower_name target) new ≡ b → owns_cname target (old ++ added) ≡ b
+    been b e = sym (own_alike (lower_name target) target (old ++ added) (lowered target)) ∙ sym (ap (owns_cname (lower_name target)) h.gained.put) ∙ e
 
-    module _ (next : DomainName) (way : LeadsTo zone target next) where
-      -- whether the chain was at the next name
-      been : (b : Bool) → owns_cname next new ≡ b → owns_cname target (old ++ added) ≡ b
-      been b e = sym (own_alike (lower_name target) target (old ++ added) (lowered target)) ∙ sym (ap (λ (n : DomainName). owns_cname n (old ++ added)) way.lower) ∙ sym (ap (owns_cname next) h.gained.put) ∙ e
+    pub leads_no_further : (left : ℕ) → ¬ (IsIn zone target) ⊎ (owns_cname (lower_name target) new ≡ true) → Chased zone (place name t left) old new ended.left_open
+    leads_no_further left (inl out) = leads_out left (subst (λ o. ¬ (IsSomeAnd o (IsIn zone))) (sym is) out)
+    leads_no_further left (inr seen) = record { added = added; put = h.gained.put; chases = comes_back h.says (h.gained.is ∙ ap (leads added) is) (been true seen) }
 
-      pub leads_back : (left : ℕ) → owns_cname next new ≡ true → Chased zone t left name old new ended.left_open
-      leads_back left e = record { added = added; put = h.gained.put; chases = comes_back h.says (h.gained.is ∙ ap (leads added) is) (been true e) }
-
-      pub leads_on : (left : ℕ) (last : Records) (ending : Ending) → ¬ (left ≡ 0) → owns_cname next new ≡ false → Chased zone t (left - 1) target new last ending → Chased zone t left name old last ending
-      leads_on left last ending some apart rest =
-          let more : suc (left - 1) ≡ left = omega arith in
-          let on : Chases zone t (left - 1) (old ++ added) target rest.added ending = subst (λ (rs : Records). Chases zone t (left - 1) rs target rest.added ending) h.gained.put rest.chases in
-          record {
-            added = added ++ rest.added;
-            put = rest.put ∙ ap (λ rs. rs ++ rest.added) h.gained.put ∙ append_assoc old added rest.added;
-            chases = subst (λ n. Chases zone t n old name (added ++ rest.added) ending) more
-                (follows h.says (h.gained.is ∙ ap (leads added) is) (record { qualified = way.qualified; within = lower_enclosed zone.origin.labels target.labels (subst (λ (n : DomainName). Encloses zone.origin.labels n.labels) way.lower way.within) })
-                (been false apart) on);
-          }
+    pub leads_on : (left : ℕ) (last : Records) (ending : Ending) → ¬ (left ≡ 0) → IsIn zone target → owns_cname (lower_name target) new ≡ false → Chased zone (place target t (left - 1)) new last ending
+        → Chased zone (place name t left) old last ending
+    leads_on left last ending some within apart rest =
+        let more : suc (left - 1) ≡ left = omega arith in
+        let on : Chases zone t (left - 1) (old ++ added) target rest.added ending = subst (λ (rs : Records). Chases zone t (left - 1) rs target rest.added ending) h.gained.put rest.chases in
+        record {
+          added = added ++ rest.added;
+          put = rest.put ∙ ap (λ rs. rs ++ rest.added) h.gained.put ∙ append_assoc old added rest.added;
+          chases = subst (λ n. Chases zone t n old name (added ++ rest.added) ending) more
+              (follows h.says (h.gained.is ∙ ap (leads added) is) within (been false apart) on);
+        }

@@ -14,10 +14,11 @@ use Rattle.hickory_zone.specs.Additionals.{AreAdditionals, Gains, IsAnswered, Is
 use Rattle.hickory_zone.specs.Chains.{IsIn, owned_by}
 use Rattle.hickory_zone.specs.declared.find.Found.{Found}
 use Rattle.hickory_zone.specs.declared.find.Found.TheVariants as found
+use Rattle.wire_messages.specs.Numbers.{type_aaaa}
 use Rattle.wire_messages.specs.declared.rr.rr_key.RrKey.{RrKey}
-use Rattle.hickory_zone.specs.FoundRecords.{outcome_of}
-use Rattle.hickory_zone.specs.Grown.{AreGained, IsGrown}
-use Rattle.hickory_zone.specs.Zones.{Answers, Outcome, Records, Zone, any_of, by_wildcard, type_aaaa}
+use Rattle.hickory_zone.specs.representation.FoundRecords.{outcome_of}
+use Rattle.hickory_zone.specs.representation.Grown.{AreGained, IsGrown}
+use Rattle.hickory_zone.specs.Zones.{Answers, Outcome, Records, Zone, any_of, by_wildcard}
 
 module _ (from : Source) (zone : Zone) (answers old : Records) where
   -- what was put so far goes before whatever the other hosts add

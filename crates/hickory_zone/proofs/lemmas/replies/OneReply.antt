@@ -3,6 +3,7 @@ use Rattle.std.proofs.Common.{◌≡◌, ℕ, [], ◌++◌, List, refl, sym, ap,
 use Rattle.std.proofs.lemmas.Bool.{false≢true}
 use Rattle.wire_names.specs.rr.domain.DomainName.{DomainName}
 use Rattle.wire_names.specs.rr.domain.NameOrder.{lower_name}
+use Rattle.wire_messages.specs.Numbers.{type_a, type_aaaa}
 use Rattle.wire_messages.specs.declared.op.query.Query.{Query}
 use Rattle.hickory_base.specs.declared.zone_store.lookup.WholeReply.{WholeReply}
 use Rattle.hickory_zone.proofs.lemmas.replies.OneChain.{chain_once}
@@ -13,7 +14,7 @@ use Rattle.hickory_zone.specs.Additionals.{AreAdditionals, Gains, IsAnswered, Is
 use Rattle.hickory_zone.specs.Endings.{Ending}
 use Rattle.hickory_zone.specs.Endings as ended
 use Rattle.hickory_zone.specs.Replies.{EndsIn, IsCompleted, RepliesTo, refuses, replies, reply_of}
-use Rattle.hickory_zone.specs.Zones.{Records, Zone, type_a, type_aaaa}
+use Rattle.hickory_zone.specs.Zones.{Records, Zone}
 
 module _ (zone : Zone) where
   answered_once : (name : DomainName) (t : ℕ) (one other : Records) → IsAnswered zone name t one → IsAnswered zone name t other → one ≡ other

@@ -6,18 +6,18 @@ use Rattle.wire_names.specs.rr.domain.DomainName.{DomainName}
 use Rattle.wire_names.specs.rr.domain.NameOrder.{lower_name}
 use Rattle.hickory_base.specs.declared.zone_store.lookup.WholeReply.{WholeReply}
 use Rattle.hickory_base.specs.zone_store.ZoneAnswers.{MemoryZone}
-use Rattle.hickory_zone.proofs.lemmas.replies.Finished.{finished_at_once, zone_is}
+use Rattle.hickory_zone.proofs.lemmas.replies.Finished.{finished_of, zone_is}
 use Rattle.hickory_zone.proofs.lemmas.zones.CutsAbove.{undirected}
 use Rattle.hickory_zone.specs.declared.additionals.Source.TheVariants as source
 use Rattle.hickory_zone.specs.declared.cuts.Cut.{Cut}
 use Rattle.hickory_zone.specs.declared.features.Features.{Features}
 use Rattle.hickory_zone.specs.Additionals.{AreAdditionals, hosts_of}
 use Rattle.hickory_zone.specs.Endings as ended
-use Rattle.hickory_zone.specs.Features.{AreFeatures}
-use Rattle.hickory_zone.specs.FoundRecords.{CutAbove, EndsAbove}
+use Rattle.hickory_zone.specs.representation.Features.{AreFeatures}
+use Rattle.hickory_zone.specs.representation.FoundRecords.{CutAbove, EndsAbove}
 use Rattle.hickory_zone.specs.Replies.{EndsIn, IsReplied, zone_of}
-use Rattle.hickory_zone.specs.ReplyAtOnce.{IsReferredAtOnce}
-use Rattle.hickory_zone.specs.TopCuts.{HasGlue, servers_at}
+use Rattle.hickory_zone.specs.representation.ReplyAtOnce.{IsReferredAtOnce}
+use Rattle.hickory_zone.specs.representation.TopCuts.{HasGlue, servers_at}
 use Rattle.hickory_zone.specs.Zones.{Records, Sets, Zone, referral}
 
 pub referred : (zone : MemoryZone) (name low : DomainName) (t : ℕ) (origin : DomainName) (sets : Sets) (cut : Option Cut) (has : Features) (reply : WholeReply) → origin ≡ zone.origin → sets ≡ zone.sets → low ≡ lower_name name
@@ -33,4 +33,4 @@ referred zone name low t origin sets (Some cut) has reply o s n features above g
     subst (λ (rs : Records). AreAdditionals source.Glue z [] (hosts_of rs) r.glue) servers (subst (λ (g : Option Records). IfSome g (AreAdditionals source.Glue z [] (hosts_of cut.servers.now))) told glue) in
     let ends : EndsAbove z low r.servers = subst (EndsAbove z low) servers above in
     let made : EndsIn z [] (ended.referral r.servers) reply = record { additionals = r.glue; completed = addresses; is = r.is } in
-    finished_at_once zone name low t origin sets (referral r.servers) [] (ended.referral r.servers) reply o s n (undirected z low t r.servers (of_zone.dnames r.none) ends) refl made
+    finished_of zone name low t origin sets (referral r.servers) [] (ended.referral r.servers) reply o s n (undirected z low t r.servers (of_zone.dnames r.none) ends) refl made

@@ -18,10 +18,10 @@ use Rattle.wire_messages.specs.rr.RrKeys.{key_cmp}
 use Rattle.wire_messages.specs.declared.rr.rr_key.RrKey.{RrKey}
 use Rattle.hickory_base.proofs.lemmas.zone_store.ZoneByName.{key_total, keys-shared}
 use Rattle.hickory_base.specs.zone_store.ZoneSets.{sets_of}
-use Rattle.hickory_zone.proofs.lemmas.names.Between.{between, encloses_up_to}
+use Rattle.hickory_zone.proofs.lemmas.names.EnclosedBetween.{between, encloses_up_to}
 use Rattle.hickory_zone.proofs.lemmas.zones.Owners.{Entry, IsHeld, all_held, all_keys, names_up_to}
-use Rattle.hickory_zone.specs.FoundRecords.{IsAbove}
-use Rattle.hickory_zone.specs.KeysBeside.{IsFirst, IsLast, SharedMap}
+use Rattle.hickory_zone.specs.representation.FoundRecords.{IsAbove}
+use Rattle.hickory_zone.specs.representation.KeysBeside.{IsFirst, IsLast, SharedMap}
 use Rattle.hickory_zone.specs.Zones.{AreOwners, IsOwner, Exists, ancestor}
 
 pub encloses_drop : (k : ℕ) (ls : List (List ℕ)) → Encloses (drop k ls) ls

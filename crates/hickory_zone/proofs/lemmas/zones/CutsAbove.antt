@@ -13,8 +13,8 @@ use Rattle.hickory_zone.proofs.lemmas.names.WildcardLabels.{enclosing_len, lower
 use Rattle.hickory_zone.proofs.lemmas.zones.Beside.{encloses_drop}
 use Rattle.hickory_zone.proofs.lemmas.zones.Cuts.{below_the_apex}
 use Rattle.hickory_zone.specs.declared.features.Features.{Features}
-use Rattle.hickory_zone.specs.FoundRecords.{CutAbove, CutAt, EndsAbove, IsEncloser, first_or, may_be_cut, name_of}
-use Rattle.hickory_zone.specs.Features.{AreFeatures, IsOfLength}
+use Rattle.hickory_zone.specs.representation.FoundRecords.{CutAbove, CutAt, EndsAbove, IsEncloser, first_or, may_be_cut, name_of}
+use Rattle.hickory_zone.specs.representation.Features.{AreFeatures, IsOfLength}
 use Rattle.hickory_zone.specs.Zones.{Answers, AnswersDirectly, HasDname, IsAuthoritativeAt, IsCut, Records, Zone, ancestor, delegated, direct, referral, rrset}
 
 -- what is known once so many names above it were looked at

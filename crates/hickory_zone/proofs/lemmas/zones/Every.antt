@@ -3,7 +3,7 @@ use Rattle.std.proofs.Common.{◌≡◌, ◌∷◌, [], true, false, cond, Optio
 use Rattle.std.specs.List.{flat_map}
 use Rattle.std.specs.Ordering.{is_eq}
 use Rattle.std.proofs.lemmas.List.Elements.{filter_agree}
-use Rattle.wire_names.specs.rr.domain.NameHash.{equal_is}
+use Rattle.wire_names.specs.representation.NameHash.{equal_is}
 use Rattle.wire_names.specs.rr.domain.NameOrder.{SameName, name_cmp}
 use Rattle.wire_names.proofs.lemmas.rr.domain.SameNames.{same_order}
 use Rattle.wire_messages.specs.declared.rr.rr_key.RrKey.{RrKey}
@@ -12,9 +12,9 @@ use Rattle.hickory_base.proofs.lemmas.zone_store.SharedSets.{records-shared}
 use Rattle.hickory_base.proofs.lemmas.zone_store.ZoneByName.{itself}
 use Rattle.hickory_base.specs.zone_store.ZoneAnswers.{records_at}
 use Rattle.hickory_base.specs.zone_store.ZoneSets.{has_name, sets_of}
-use Rattle.hickory_zone.proofs.lemmas.names.Between.{same_of}
+use Rattle.hickory_zone.proofs.lemmas.names.EnclosedBetween.{same_of}
 use Rattle.hickory_zone.proofs.lemmas.zones.Nodes.{Entries}
-use Rattle.hickory_zone.specs.KeysBeside.{SharedMap, StandsBehind}
+use Rattle.hickory_zone.specs.representation.KeysBeside.{SharedMap, StandsBehind}
 use Rattle.hickory_zone.specs.Zones.{Records}
 
 -- the records of the entries of the name in front

@@ -11,17 +11,17 @@ use Rattle.std.proofs.lemmas.List.{get_or-append-add, length-map}
 use Rattle.std.proofs.lemmas.List.Elements.{All-contains, Contains-append_right}
 use Rattle.std.proofs.lemmas.Str.Ascii.{lowercase_is}
 use Rattle.wire_names.specs.rr.domain.DomainName.{DomainName, name_len, wire_form}
-use Rattle.wire_names.specs.rr.domain.NameHash.{equal_is}
+use Rattle.wire_names.specs.representation.NameHash.{equal_is}
 use Rattle.wire_names.specs.rr.domain.NameOrder.{Encloses, SameName, lower_label, lower_labels, name_cmp}
 use Rattle.wire_messages.specs.declared.rr.rr_key.RrKey.{RrKey}
 use Rattle.hickory_base.proofs.lemmas.zone_store.ZoneByName.{eq_numbers, eq_then}
 use Rattle.hickory_base.specs.zone_store.ZoneSets.{is_key}
 use Rattle.wire_names.proofs.lemmas.rr.domain.WireForm.{name_len-wire_form}
-use Rattle.hickory_zone.proofs.lemmas.names.Between.{same_of}
+use Rattle.hickory_zone.proofs.lemmas.names.EnclosedBetween.{same_of}
 use Rattle.hickory_zone.proofs.lemmas.names.WildcardLabels.{lower_len}
 use Rattle.hickory_zone.proofs.lemmas.zones.Cuts.{encloses_length}
 use Rattle.hickory_zone.specs.declared.features.Lengths.{Lengths}
-use Rattle.hickory_zone.specs.Features.{CutsNothing, CutsWithin, IsNoDname, IsOfLength, IsStarless, IsWildWithin, has_star}
+use Rattle.hickory_zone.specs.representation.Features.{CutsNothing, CutsWithin, IsNoDname, IsOfLength, IsStarless, IsWildWithin, has_star}
 use Rattle.hickory_zone.specs.Zones.{Exists, HasDname, IsCut, Records, Sets, Zone, rrset, wildcard}
 
 and_both : (a b : Bool) → (a && b) ≡ true → (a ≡ true) × (b ≡ true)

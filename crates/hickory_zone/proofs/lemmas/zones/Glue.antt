@@ -7,8 +7,8 @@ use Rattle.wire_messages.specs.declared.rr.rdata.RData.{RData}
 use Rattle.wire_messages.specs.declared.rr.record.Record.{Record}
 use Rattle.hickory_zone.specs.declared.additionals.Source.TheVariants as source
 use Rattle.hickory_zone.specs.Additionals.{AreAdditionals, hosts_of}
-use Rattle.hickory_zone.specs.KeysBeside.{Entry}
-use Rattle.hickory_zone.specs.TopCuts.{AreGlueOf}
+use Rattle.hickory_zone.specs.representation.KeysBeside.{Entry}
+use Rattle.hickory_zone.specs.representation.TopCuts.{AreGlueOf}
 use Rattle.hickory_zone.specs.Zones.{Records, Zone}
 
 abbrev pub Section : Type 0

@@ -13,14 +13,14 @@ use Rattle.std.proofs.lemmas.Grind.{common_steps}
 use Rattle.std.proofs.Math.Seq.{drop-cons}
 use Rattle.wire_names.specs.rr.domain.DomainName.{DomainName}
 use Rattle.wire_names.specs.rr.domain.NameOrder.{name_cmp}
-use Rattle.wire_names.specs.rr.domain.OrderKey.{order_word}
+use Rattle.wire_names.specs.representation.OrderKey.{order_word}
 use Rattle.wire_names.proofs.lemmas.rr.domain.OrderWords.{word_order}
 use Rattle.wire_messages.specs.declared.rr.rr_key.RrKey.{RrKey}
 use Rattle.wire_messages.specs.rr.RrKeys.{key_cmp}
-use Rattle.hickory_zone.specs.Indexes.{AreWordsOf, IsWordOf}
+use Rattle.hickory_zone.specs.representation.Indexes.{AreWordsOf, IsWordOf}
 use Rattle.hickory_base.proofs.lemmas.zone_store.ZoneByName.{key_total, keys-shared}
 use Rattle.hickory_base.specs.zone_store.ZoneSets.{sets_of, shared_sets}
-use Rattle.hickory_zone.specs.KeysBeside.{Entry, IsFirst, SharedMap, StandsBehind}
+use Rattle.hickory_zone.specs.representation.KeysBeside.{Entry, IsFirst, SharedMap, StandsBehind}
 use Rattle.hickory_zone.proofs.lemmas.zones.Ranges.{is_range, keys_there}
 
 some_same : {A : Type 0} {x y : A} → Some x ≡ Some y → x ≡ y

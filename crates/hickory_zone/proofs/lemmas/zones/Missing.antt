@@ -5,8 +5,8 @@ use Rattle.wire_messages.specs.declared.rr.rr_key.RrKey.{RrKey}
 use Rattle.hickory_zone.proofs.lemmas.zones.CutsAbove.{above_encloser, undirected}
 use Rattle.hickory_zone.proofs.lemmas.zones.Outcomes.{below_encloser, is_above}
 use Rattle.hickory_zone.specs.declared.features.Features.{Features}
-use Rattle.hickory_zone.specs.Features.{AreFeatures}
-use Rattle.hickory_zone.specs.FoundRecords.{CutAbove, IsBare, IsEncloser, WildFound, missing_outcome}
+use Rattle.hickory_zone.specs.representation.Features.{AreFeatures}
+use Rattle.hickory_zone.specs.representation.FoundRecords.{CutAbove, IsBare, IsEncloser, WildFound, missing_outcome}
 use Rattle.hickory_zone.specs.Zones.{Answers, Exists, Records, Sets, Zone, ancestor, direct}
 
 -- The name right above one that does not exist is its closest encloser if it does.

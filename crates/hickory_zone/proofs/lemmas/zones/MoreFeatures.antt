@@ -5,7 +5,7 @@ use Rattle.std.proofs.lemmas.Bool.{cases_lt}
 use Rattle.wire_messages.specs.declared.rr.rdata.RData.{RData}
 use Rattle.wire_messages.specs.declared.rr.record.Record.{Record}
 use Rattle.hickory_zone.specs.declared.features.Features.{Features}
-use Rattle.hickory_zone.specs.Features.{Covers, Includes}
+use Rattle.hickory_zone.specs.representation.Features.{Covers, Includes}
 
 pub includes_via : (less some more : Features) → Includes less some → Includes some more → Includes less more
 includes_via less some more h k = record {

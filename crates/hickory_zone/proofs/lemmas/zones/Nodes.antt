@@ -16,9 +16,9 @@ use Rattle.hickory_base.proofs.lemmas.zone_store.ZoneByName.{eq_numbers, eq_then
 use Rattle.hickory_base.specs.declared.zone_store.record_set.RecordSet.{RecordSet}
 use Rattle.hickory_base.specs.zone_store.ZoneSets.{has_name, is_key, shared_sets}
 use Rattle.std.specs.Option.{unwrap_or}
-use Rattle.hickory_zone.specs.KeysBeside.{IsFirst}
+use Rattle.hickory_zone.specs.representation.KeysBeside.{IsFirst}
 use Rattle.hickory_zone.specs.Zones.{Records, rrset}
-use Rattle.hickory_zone.specs.FoundRecords.{first_or}
+use Rattle.hickory_zone.specs.representation.FoundRecords.{first_or}
 
 abbrev pub Entries : Type 0
 Entries = List (RrKey × Rc RecordSet Global)

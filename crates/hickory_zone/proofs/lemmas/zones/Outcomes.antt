@@ -9,20 +9,21 @@ use Rattle.std.proofs.lemmas.List.{length-map}
 use Rattle.std.proofs.Math.Seq.{drop-nil}
 use Rattle.std.proofs.lemmas.List.Elements.{All-contains, Contains-append_right}
 use Rattle.wire_names.specs.rr.domain.DomainName.{DomainName}
-use Rattle.wire_names.specs.rr.domain.NameHash.{equal_is}
+use Rattle.wire_names.specs.representation.NameHash.{equal_is}
 use Rattle.wire_names.specs.rr.domain.NameOrder.{Encloses, SameName, lower_label, lower_labels, name_cmp}
+use Rattle.wire_messages.specs.Numbers.{type_any, type_cname, type_ds}
 use Rattle.wire_messages.specs.declared.rr.rr_key.RrKey.{RrKey}
 use Rattle.hickory_base.proofs.lemmas.zone_store.ZoneByName.{eq_then}
 use Rattle.hickory_base.specs.zone_store.ZoneAnswers.{records_at}
 use Rattle.hickory_base.specs.zone_store.ZoneSets.{is_key}
 use Rattle.hickory_zone.proofs.lemmas.zones.Beside.{encloses_drop}
-use Rattle.hickory_zone.proofs.lemmas.names.Between.{same_of}
+use Rattle.hickory_zone.proofs.lemmas.names.EnclosedBetween.{same_of}
 use Rattle.hickory_zone.proofs.lemmas.zones.Cuts.{encloses_length, ends_within}
 use Rattle.hickory_zone.proofs.lemmas.names.Enclosers.{ancestor-ancestor}
 use Rattle.hickory_zone.specs.declared.find.Delegation.{Delegation}
 use Rattle.hickory_zone.specs.declared.find.Found.{Found}
-use Rattle.hickory_zone.specs.FoundRecords.{CutAt, EndsAt, IsEncloser, WildFound, outcome_of}
-use Rattle.hickory_zone.specs.Zones.{AnswersDirectly, delegated, at_cut, matched, wild, denied, AreOwners, Delegates, Exists, HasClosestEncloser, IsAuthoritativeAt, IsCut, IsOwner, Outcome, Records, Sets, Zone, ancestor, any_of, at_node, no_name, of_sets, referral, rrset, type_any, type_cname, type_ds, wildcard}
+use Rattle.hickory_zone.specs.representation.FoundRecords.{CutAt, EndsAt, IsEncloser, WildFound, outcome_of}
+use Rattle.hickory_zone.specs.Zones.{AnswersDirectly, delegated, at_cut, matched, wild, denied, AreOwners, Delegates, Exists, HasClosestEncloser, IsAuthoritativeAt, IsCut, IsOwner, Outcome, Records, Sets, Zone, ancestor, any_of, at_node, no_name, of_sets, referral, rrset, wildcard}
 
 and_first : (a b : Bool) → (a && b) ≡ true → a ≡ true
 and_first true b h = refl

@@ -21,10 +21,10 @@ use Rattle.hickory_base.proofs.lemmas.zone_store.KeyOrder.{from_first}
 use Rattle.hickory_base.proofs.lemmas.zone_store.ZoneByName.{key_total, keys-shared}
 use Rattle.hickory_base.specs.declared.zone_store.record_set.RecordSet.{RecordSet}
 use Rattle.hickory_base.specs.zone_store.ZoneSets.{sets_of}
-use Rattle.hickory_zone.proofs.lemmas.names.Between.{between, encloses_up_to}
+use Rattle.hickory_zone.proofs.lemmas.names.EnclosedBetween.{between, encloses_up_to}
 use Rattle.std.specs.Prelude.{◌↔◌}
-use Rattle.hickory_zone.specs.FoundRecords.{IsAbove}
-use Rattle.hickory_zone.specs.KeysBeside.{SharedMap, StandsBehind}
+use Rattle.hickory_zone.specs.representation.FoundRecords.{IsAbove}
+use Rattle.hickory_zone.specs.representation.KeysBeside.{SharedMap, StandsBehind}
 use Rattle.hickory_zone.specs.Zones.{AreOwners, IsOwner, Exists}
 
 abbrev pub Entry : Type 0

@@ -9,7 +9,7 @@ use Rattle.hickory_zone.proofs.lemmas.names.Enclosers.{ancestor-ancestor}
 use Rattle.hickory_zone.proofs.lemmas.zones.Cuts.{below_the_apex, encloses_length, no_cut_above, not_empty}
 use Rattle.hickory_zone.proofs.lemmas.zones.Outcomes.{is_above, owns}
 use Rattle.hickory_zone.specs.declared.redirections.Redirection.{Redirection}
-use Rattle.hickory_zone.specs.FoundRecords.{IsEncloser, RedirectedAt, RedirectedBy, TopDname, higher}
+use Rattle.hickory_zone.specs.representation.FoundRecords.{IsEncloser, RedirectedAt, RedirectedBy, TopDname, higher}
 use Rattle.hickory_zone.specs.Zones.{Answers, Exists, HasClosestEncloser, HasDname, IsCut, Records, Redirects, Zone, ancestor, redirected, redirection, rrset}
 
 -- what is known once so many names were looked at

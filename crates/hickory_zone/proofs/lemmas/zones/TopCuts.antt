@@ -21,14 +21,14 @@ use Rattle.wire_names.specs.rr.domain.NameOrder.{Encloses, lower_label, lower_la
 use Rattle.wire_messages.specs.declared.rr.rr_key.RrKey.{RrKey}
 use Rattle.wire_messages.specs.rr.RrKeys.{key_cmp}
 use Rattle.hickory_base.proofs.lemmas.zone_store.ZoneByName.{key_total}
-use Rattle.hickory_zone.proofs.lemmas.names.Between.{between, encloses_up_to, same_of}
+use Rattle.hickory_zone.proofs.lemmas.names.EnclosedBetween.{between, encloses_up_to, same_of}
 use Rattle.hickory_zone.proofs.lemmas.zones.Beside.{encloses_drop}
 use Rattle.hickory_zone.proofs.lemmas.zones.Cuts.{encloses_length}
 use Rattle.hickory_zone.proofs.lemmas.zones.Owners.{names_up_to}
-use Rattle.hickory_zone.specs.FoundRecords.{CutAbove, EndsAbove}
-use Rattle.hickory_zone.specs.Indexes.{IsPlaceOf}
-use Rattle.hickory_zone.specs.KeysBeside.{Entry}
-use Rattle.hickory_zone.specs.TopCuts.{AreTopCuts, IsBelowOne, IsSetOfCut}
+use Rattle.hickory_zone.specs.representation.FoundRecords.{CutAbove, EndsAbove}
+use Rattle.hickory_zone.specs.representation.Indexes.{IsPlaceOf}
+use Rattle.hickory_zone.specs.representation.KeysBeside.{Entry}
+use Rattle.hickory_zone.specs.representation.TopCuts.{AreTopCuts, IsBelowOne, IsSetOfCut}
 use Rattle.hickory_zone.specs.Zones.{IsCut, Zone, ancestor, rrset}
 
 pub some_same : {A : Type 0} {x y : A} → Some x ≡ Some y → x ≡ y

@@ -14,18 +14,18 @@ use Rattle.std.proofs.lemmas.Bool.Decides.{nat_tests}
 use Rattle.std.proofs.lemmas.List.{append-nil, length-map}
 use Rattle.std.proofs.lemmas.List.Elements.{All-contains, All-nil, All-push, recursion_from_All, Contains-append_left, Contains-push, Contains-push_cases}
 use Rattle.wire_names.specs.rr.domain.DomainName.{DomainName}
-use Rattle.wire_names.specs.rr.domain.NameHash.{same_from_eq}
+use Rattle.wire_names.specs.representation.NameHash.{same_from_eq}
 use Rattle.wire_names.specs.rr.domain.NameOrder.{Encloses, SameName, lower_label, lower_labels, name_cmp}
 use Rattle.wire_messages.specs.declared.rr.rr_key.RrKey.{RrKey}
 use Rattle.wire_messages.specs.rr.RrKeys.{key_cmp}
 use Rattle.hickory_base.proofs.lemmas.zone_store.ZoneByName.{eq_numbers, eq_then, key_total, keys-shared}
 use Rattle.hickory_base.specs.zone_store.ZoneSets.{is_key, shared_sets}
-use Rattle.hickory_zone.proofs.lemmas.names.Between.{between, encloses_up_to}
+use Rattle.hickory_zone.proofs.lemmas.names.EnclosedBetween.{between, encloses_up_to}
 use Rattle.hickory_zone.proofs.lemmas.zones.Cuts.{below_the_apex, encloses_length}
 use Rattle.hickory_zone.proofs.lemmas.zones.Owners.{names_up_to}
 use Rattle.hickory_zone.proofs.lemmas.zones.TopCuts.{contained, in_order, key_at, not_gt_of_less, place_of_one, some_same}
-use Rattle.hickory_zone.specs.KeysBeside.{Entry}
-use Rattle.hickory_zone.specs.TopCuts.{AreApart, AreTopCuts, IsBelowOne, IsPassedOver, IsPut, IsSetOfCut}
+use Rattle.hickory_zone.specs.representation.KeysBeside.{Entry}
+use Rattle.hickory_zone.specs.representation.TopCuts.{AreApart, AreTopCuts, IsBelowOne, IsPassedOver, IsPut, IsSetOfCut}
 use Rattle.hickory_zone.specs.Zones.{AreOwners, IsCut, IsOwner, Records, Zone, rrset}
 
 module _ {K : Type 0} where
@@ -101,7 +101,8 @@ by_first : (P : Type 0) (b : Bool) (x : Records) (o : Option Records) → (b ≡
 by_first P true x o f h = inl (f refl)
 by_first P false x o f h = inr h
 
--- What is known once the sets before these were looked at: a cut is below one of the topmost so far, or is still to come.
+-- What is known once the sets before these were looked at: a cut is below one of the topmost so far, or is still to
+-- come.
 pub record AreTopSoFar (zone : Zone) (cuts rest : List Entry) : Type 0 where
   pub each : All (IsSetOfCut zone) cuts
   pub whole : (name : DomainName) → IsCut zone name → IsBelowOne cuts name ⊎ (is_some (rrset (shared_sets rest) name 2) ≡ true)
@@ -158,6 +159,7 @@ module _ (zone : Zone) where
     own = record {
       cut = subst (λ (k : RrKey). IsCut zone k.name) (sym key) is_cut;
       qualified = ap (λ (k : RrKey). k.name.is_fqdn) key ∙ owner.qualified;
+      of_type = ap (λ (k : RrKey). k.record_type) key ∙ put.servers;
       servers = ap (λ (k : RrKey). rrset zone.sets k.name 2) key ∙ servers ∙ ap Some (sym value);
     }
 

@@ -9,8 +9,8 @@ use Rattle.hickory_base.specs.zone_store.ZoneSets.{sets_of}
 use Rattle.hickory_zone.proofs.lemmas.zones.Beside.{by_behind}
 use Rattle.hickory_zone.proofs.lemmas.zones.Owners.{exists_behind}
 use Rattle.hickory_zone.specs.declared.find.Found.{Found}
-use Rattle.hickory_zone.specs.FoundRecords.{IsAbove, WildFound, outcome_of}
-use Rattle.hickory_zone.specs.KeysBeside.{SharedMap, StandsBehind}
+use Rattle.hickory_zone.specs.representation.FoundRecords.{IsAbove, WildFound, outcome_of}
+use Rattle.hickory_zone.specs.representation.KeysBeside.{SharedMap, StandsBehind}
 use Rattle.hickory_zone.specs.Zones.{AreOwners, Exists, Sets, at_node, by_wildcard, wildcard}
 
 module _ (sets : SharedMap) (encloser : DomainName) (t : ℕ) (first : RrKey) (behind : Option RrKey) (is : first.name ≡ wildcard encloser) (least : first.record_type ≡ 0) (qualified : encloser.is_fqdn ≡ true) (b : StandsBehind sets first behind) where

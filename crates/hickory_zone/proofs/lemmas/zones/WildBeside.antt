@@ -1,4 +1,5 @@
--- What is answered for a name that does not exist, where one of the sets before it is of the wildcard that stands for it.
+-- What is answered for a name that does not exist, where one of the sets before it is of the wildcard that stands for
+-- it.
 use Rattle.std.proofs.Common.{◌≡◌, ℕ, zero, suc, ◌<◌, Bool, false, true, List, ◌∷◌, [], drop, length, get_or, Option, None, Some, ap, arith, refl, sym, subst, ◌∙◌}
 use Rattle.std.specs.Borrow.{Bor}
 use Rattle.std.specs.List.{Contains}
@@ -10,6 +11,7 @@ use Rattle.std.proofs.lemmas.Map.Keys.{IsDistinct-from_sorted}
 use Rattle.std.proofs.lemmas.Map.Views.{lookup-from_Contains}
 use Rattle.wire_names.specs.rr.domain.DomainName.{DomainName}
 use Rattle.wire_names.specs.rr.domain.NameOrder.{lower_labels}
+use Rattle.wire_messages.specs.Numbers.{type_any, type_cname}
 use Rattle.wire_messages.specs.declared.rr.rr_key.RrKey.{RrKey}
 use Rattle.wire_messages.specs.rr.RrKeys.{key_cmp}
 use Rattle.hickory_base.proofs.lemmas.zone_store.ZoneByName.{key_total}
@@ -19,10 +21,10 @@ use Rattle.hickory_zone.proofs.lemmas.zones.Outcomes.{at_one, below_encloser, is
 use Rattle.hickory_zone.proofs.lemmas.zones.Wild.{below_it}
 use Rattle.hickory_zone.specs.declared.features.Features.{Features}
 use Rattle.hickory_zone.specs.declared.find.Found.TheVariants as found
-use Rattle.hickory_zone.specs.Features.{AreFeatures}
-use Rattle.hickory_zone.specs.FoundRecords.{CutAbove, IsEncloser, IsWildAmong, WildFound, wild_or_referral}
-use Rattle.hickory_zone.specs.KeysBeside.{AreSetsAmong, Entry}
-use Rattle.hickory_zone.specs.Zones.{AreOwners, Answers, Exists, IsOwner, Records, Sets, Zone, ancestor, by_wildcard, direct, of_sets, rrset, type_any, type_cname, wildcard}
+use Rattle.hickory_zone.specs.representation.Features.{AreFeatures}
+use Rattle.hickory_zone.specs.representation.FoundRecords.{CutAbove, IsEncloser, IsWildAmong, WildFound, wild_or_referral}
+use Rattle.hickory_zone.specs.representation.KeysBeside.{AreSetsAmong, Entry}
+use Rattle.hickory_zone.specs.Zones.{AreOwners, Answers, Exists, IsOwner, Records, Sets, Zone, ancestor, by_wildcard, direct, of_sets, rrset, wildcard}
 
 -- the key of a set is one of the keys
 key_among : (sets : Sets) (i : ℕ) (s : RrKey × Records) → i < length sets → get_or sets i s ≡ s → Contains (keys_of sets) s.0

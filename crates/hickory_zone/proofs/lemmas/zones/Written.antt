@@ -9,15 +9,16 @@ use Rattle.std.proofs.lemmas.Bool.Decides.{nat_tests}
 use Rattle.std.proofs.lemmas.List.{length-map}
 use Rattle.std.proofs.lemmas.List.Elements.{All-nil, All-cons, All-contains, Contains-append_right}
 use Rattle.wire_names.specs.rr.domain.DomainName.{DomainName}
-use Rattle.wire_names.specs.rr.domain.NameHash.{equal_is}
+use Rattle.wire_names.specs.representation.NameHash.{equal_is}
 use Rattle.wire_names.specs.rr.domain.NameOrder.{Encloses, SameName, lower_label, lower_labels, name_cmp}
+use Rattle.wire_messages.specs.Numbers.{type_dname, type_ds, type_ns}
 use Rattle.wire_messages.specs.declared.rr.rr_key.RrKey.{RrKey}
-use Rattle.hickory_zone.proofs.lemmas.names.Between.{equal_of, same_of}
+use Rattle.hickory_zone.proofs.lemmas.names.EnclosedBetween.{equal_of, same_of}
 use Rattle.hickory_zone.proofs.lemmas.names.Enclosers.{ancestor-ancestor}
 use Rattle.hickory_zone.proofs.lemmas.zones.Beside.{encloses_drop}
 use Rattle.hickory_zone.proofs.lemmas.zones.Cuts.{encloses_length, ends_within}
 use Rattle.hickory_zone.proofs.lemmas.zones.Outcomes.{closest_once}
-use Rattle.hickory_zone.specs.Zones.{Answers, Delegates, Exists, HasClosestEncloser, HasDname, IsAuthoritativeAt, IsCut, Records, Redirects, Sets, Zone, ancestor, at_cut, at_node, delegated, denied, direct, matched, no_name, redirected, redirection, referral, rrset, by_wildcard, type_dname, type_ds, type_ns, wild, wildcard}
+use Rattle.hickory_zone.specs.Zones.{Answers, Delegates, Exists, HasClosestEncloser, HasDname, IsAuthoritativeAt, IsCut, Records, Redirects, Sets, Zone, ancestor, at_cut, at_node, delegated, denied, direct, matched, no_name, redirected, redirection, referral, rrset, by_wildcard, wild, wildcard}
 
 and_both : (a b : Bool) → (a && b) ≡ true → (a ≡ true) × (b ≡ true)
 and_both true b h = (refl, h)

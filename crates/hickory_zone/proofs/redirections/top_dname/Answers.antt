@@ -3,7 +3,7 @@ use Rattle.std.proofs.lemmas.Bool.{false≢true}
 use Rattle.std.specs.Option.{option_copied}
 use Rattle.hickory_base.specs.zone_store.ZoneSets.{sets_of}
 use Rattle.wire_names.specs.rr.domain.NameOrder.{Encloses}
-use Rattle.hickory_zone.specs.FoundRecords.{TopDname, higher}
+use Rattle.hickory_zone.specs.representation.FoundRecords.{TopDname, higher}
 use Rattle.hickory_zone.specs.Zones.{Zone, ancestor, rrset}
 use Rattle.hickory_zone.proofs.lemmas.names.Enclosers.{ancestor-ancestor}
 use Rattle.hickory_zone.proofs.lemmas.zones.Cuts.{not_empty, parent_within}

@@ -1,9 +1,9 @@
 use Rattle.std.proofs.Common.{◌≡◌, Option, sym, subst}
 use Rattle.std.specs.Prelude.{IfSome}
 use Rattle.hickory_zone.specs.declared.find.Found.{Found}
-use Rattle.hickory_zone.specs.FoundRecords.{outcome_of}
+use Rattle.hickory_zone.specs.representation.FoundRecords.{outcome_of}
 use Rattle.hickory_zone.specs.Replies.{denial_soa}
-use Rattle.hickory_zone.specs.ReplyAtOnce.{IsReplyAtOnce}
+use Rattle.hickory_zone.specs.representation.ReplyAtOnce.{IsReplyAtOnce}
 use Rattle.hickory_zone.specs.Zones.{Records}
 use Rattle.hickory_zone.proofs.lemmas.replies.AtOnce.{of_no_data, of_no_name, of_records}
 use Rattle.hickory_zone.proofs.replies.put_at_once.Goals as goal

@@ -1,10 +1,10 @@
 use Rattle.std.proofs.Common.{[], ◌∷◌, refl, arith}
 use Rattle.std.proofs.lemmas.Bool.{false≢true}
+use Rattle.wire_messages.specs.Numbers.{type_a, type_cname, type_txt}
 use Rattle.wire_messages.specs.declared.rr.rdata.RData.TheVariants as rdata
 use Rattle.hickory_zone.proofs.lemmas.zones.Written.{above_told, as_denied, as_matched, as_referred, encloses_by}
 use Rattle.hickory_zone.specs.Chains.{comes_back, finishes, follows, leaves, stops}
-use Rattle.hickory_zone.specs.WorkedZones.{away, child, cuts, example, first_alias, into_child, itself_alias, nobody, ns_child, owned, ping, pong, second_alias, server, text, to_child, to_nobody, to_text, type_txt}
-use Rattle.hickory_zone.specs.Zones.{type_a, type_cname}
+use Rattle.hickory_zone.specs.WorkedZones.{away, child, cuts, example, first_alias, into_child, itself_alias, nobody, ns_child, owned, ping, pong, second_alias, server, text, to_child, to_nobody, to_text}
 use Rattle.hickory_zone.proofs.worked.worked_chains.Goals as goal
 
 pub returns-clause-at_records : goal.returns-clause-at_records

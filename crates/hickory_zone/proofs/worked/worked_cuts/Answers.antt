@@ -1,9 +1,9 @@
 use Rattle.std.proofs.Common.{refl, arith}
 use Rattle.std.proofs.Common.{[], ◌∷◌}
+use Rattle.wire_messages.specs.Numbers.{type_a, type_any, type_ds, type_ns}
 use Rattle.wire_messages.specs.declared.rr.rdata.RData.TheVariants as rdata
 use Rattle.hickory_zone.proofs.lemmas.zones.Written.{as_at_cut, as_matched, as_referred}
 use Rattle.hickory_zone.specs.WorkedZones.{child, cuts, deep, example, grandchild, ns_child, owned}
-use Rattle.hickory_zone.specs.Zones.{type_a, type_any, type_ds, type_ns}
 use Rattle.hickory_zone.proofs.worked.worked_cuts.Goals as goal
 
 pub returns-clause-at_cut : goal.returns-clause-at_cut

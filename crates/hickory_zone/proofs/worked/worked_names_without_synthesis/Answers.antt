@@ -1,9 +1,8 @@
 use Rattle.std.proofs.Common.{refl, arith}
+use Rattle.wire_messages.specs.Numbers.{type_a, type_any, type_mx, type_srv}
 use Rattle.wire_messages.specs.declared.rr.rdata.RData.TheVariants as rdata
 use Rattle.hickory_zone.proofs.lemmas.zones.Written.{as_denied, as_matched, as_referred}
-use Rattle.hickory_zone.specs.Additionals.{type_srv}
 use Rattle.hickory_zone.specs.WorkedZones.{any_name, ghost_any, host1, host_subdel, owned, server, sub_any, subdel, tcp_host1, telnet_host1, wildcards}
-use Rattle.hickory_zone.specs.Zones.{type_a, type_any, type_mx}
 use Rattle.std.proofs.Common.{[], ◌∷◌}
 use Rattle.hickory_zone.proofs.worked.worked_names_without_synthesis.Goals as goal
 

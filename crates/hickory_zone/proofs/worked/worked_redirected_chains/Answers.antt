@@ -1,11 +1,11 @@
 use Rattle.std.proofs.Common.{[], ◌∷◌, refl, arith}
+use Rattle.wire_messages.specs.Numbers.{type_a, type_any, type_cname}
 use Rattle.wire_messages.specs.serialize.reading.NameReading.{name, labels_from, labels_within}
 use Rattle.wire_messages.specs.declared.rr.rdata.RData.TheVariants as rdata
 use Rattle.hickory_zone.proofs.lemmas.zones.Written.{as_denied, as_matched, as_redirected, encloses_by, redirects_by}
 use Rattle.hickory_zone.specs.Chains.{comes_back, finishes, follows}
 use Rattle.hickory_zone.specs.WorkedRedirections.{a_self, back_new, back_old, below_long, long, made, moved, nobody_new, nobody_old, redirecting, self, to_far, to_self, www_new, www_old}
 use Rattle.hickory_zone.specs.WorkedZones.{address, example, owned}
-use Rattle.hickory_zone.specs.Zones.{type_a, type_any, type_cname}
 use Rattle.hickory_zone.proofs.worked.worked_redirected_chains.Goals as goal
 
 pub returns-clause-at_records : goal.returns-clause-at_records

@@ -1,9 +1,9 @@
 use Rattle.std.proofs.Common.{[], ◌∷◌, refl, arith}
+use Rattle.wire_messages.specs.Numbers.{type_a, type_cname, type_dname, type_ns}
 use Rattle.wire_messages.specs.declared.rr.rdata.RData.TheVariants as rdata
 use Rattle.hickory_zone.proofs.lemmas.zones.Written.{as_matched, as_redirected, as_referred_below, redirects_by}
 use Rattle.hickory_zone.specs.WorkedRedirections.{cut_old, low, moved, new_home, old_home, redirecting, redirecting_apex, sub, to_new_home, www_low, www_old, www_sub}
 use Rattle.hickory_zone.specs.WorkedZones.{example, owned, server}
-use Rattle.hickory_zone.specs.Zones.{type_a, type_cname, type_dname, type_ns}
 use Rattle.hickory_zone.proofs.worked.worked_redirections.Goals as goal
 
 pub returns-clause-owner : goal.returns-clause-owner

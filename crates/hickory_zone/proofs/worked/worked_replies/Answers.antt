@@ -1,5 +1,6 @@
 use Rattle.std.proofs.Common.{[], ◌∷◌, refl, arith}
 use Rattle.std.proofs.lemmas.Bool.{false≢true}
+use Rattle.wire_messages.specs.Numbers.{type_a, type_aaaa, type_cname, type_mx, type_ns, type_txt}
 use Rattle.wire_messages.specs.serialize.reading.NameReading.{name, labels_from, labels_within}
 use Rattle.wire_messages.specs.declared.rr.rdata.RData.TheVariants as rdata
 use Rattle.hickory_zone.proofs.lemmas.zones.Written.{above_told, as_denied, as_matched, as_redirected, as_referred, as_wild, encloses_by, redirects_by}
@@ -9,8 +10,7 @@ use Rattle.hickory_zone.specs.Endings as ended
 use Rattle.hickory_zone.specs.Replies.{refuses, replies}
 use Rattle.hickory_zone.specs.WorkedRedirections.{below_long, long, made, moved, redirecting, to_far, www_old}
 use Rattle.hickory_zone.specs.WorkedReplies.{loud_host3, loud_new, loud_old}
-use Rattle.hickory_zone.specs.WorkedZones.{address, child, cuts, example, host1, host3, into_child, mail, nobody, ns_child, owned, server, to_child, to_nobody, text, to_text, type_txt, wildcards}
-use Rattle.hickory_zone.specs.Zones.{type_a, type_aaaa, type_cname, type_mx, type_ns}
+use Rattle.hickory_zone.specs.WorkedZones.{address, child, cuts, example, host1, host3, into_child, mail, nobody, ns_child, owned, server, to_child, to_nobody, text, to_text, wildcards}
 use Rattle.hickory_zone.proofs.worked.worked_replies.Goals as goal
 
 pub returns-clause-answer_with_address : goal.returns-clause-answer_with_address

@@ -1,7 +1,7 @@
 use Rattle.std.proofs.Common.{refl}
+use Rattle.wire_messages.specs.Numbers.{type_a, type_any, type_mx, type_txt}
 use Rattle.hickory_zone.proofs.lemmas.zones.Written.{as_wild}
-use Rattle.hickory_zone.specs.WorkedZones.{foo_bar, host3, type_txt, wildcards}
-use Rattle.hickory_zone.specs.Zones.{type_a, type_any, type_mx}
+use Rattle.hickory_zone.specs.WorkedZones.{foo_bar, host3, wildcards}
 use Rattle.hickory_zone.proofs.worked.worked_syntheses.Goals as goal
 
 pub returns-clause-host3_mx : goal.returns-clause-host3_mx

@@ -7,13 +7,13 @@ use Rattle.text_words.specs.declared.error.TextError.{TextError}
 use Rattle.text_words.specs.declared.error.TextError.TheVariants.{Memory}
 use Rattle.text_words.specs.declared.words.TextKind.{TextKind}
 use Rattle.text_words.specs.declared.words.Word.{Word}
-use Rattle.text_words.specs.Words.{AreWordsTo, StandOnce}
+use Rattle.text_words.specs.Words.{AreWordsTo, StandOnce, words_left}
 use Rattle.record_text.specs.RecordText.{HasData, HasNone, SpellsData}
 use Rattle.record_text.proofs.SameWords.{same_spelled}
 use Rattle.record_text.proofs.data.data_of.Goals as goal
 
 none_stand : ParametersOfWords → StandOnce → (r : Result RData TextError) (number : ℕ) (kind : TextKind) (text : List ℕ) (place depth : ℕ) (fields : List Word) (end : ℕ) → AreWordsTo kind text place depth fields end
-    → IfErr r (λ e. e ≢ Memory → HasNone (SpellsData None number fields)) → IfErr r (λ e. e ≢ Memory → HasNone (HasData None number kind text place depth))
+    → IfErr r (λ e. e ≢ Memory → HasNone (SpellsData None number fields)) → IfErr r (λ e. e ≢ Memory → HasNone (HasData None number (words_left kind text place depth)))
 none_stand same once (Ok found) number kind text place depth fields end stand h = h
 none_stand same once (Err e) number kind text place depth fields end stand h = λ no_want rdata has.
     h no_want rdata (same_spelled same None number has.words rdata has.spelled fields (once kind text place depth has.end end has.words fields has.stand stand).0)

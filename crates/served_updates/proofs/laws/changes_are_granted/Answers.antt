@@ -2,19 +2,19 @@ use Rattle.std.proofs.Common.{◌≡◌, ◌≢◌, ap, Bool, ℕ, Option, Resul
 use Rattle.hickory_base.specs.requests.Requests.{ReceivedRequest}
 use Rattle.hickory_base.specs.declared.errors.UpdateFault.{UpdateFault}
 use Rattle.wire_messages.specs.declared.rr.tsig.TSigResponseContext.{TSigResponseContext}
-use Rattle.hickory_store.specs.declared.sqlite.verifier.Verifier.{Ghosts}
+use Rattle.hickory_store.specs.declared.updates.verifier.Verifier.{Ghosts}
 use Rattle.served_updates.specs.UpdatedZones.{IsGrantedTo, Updates}
 use Rattle.served_updates.specs.UpdatedZones.Updates.{granted, outside}
 use Rattle.served_updates.specs.declared.updated_zone.UpdatedZone.{UpdatedZone}
 use Rattle.served_updates.proofs.laws.changes_are_granted.Goals as goal
 
 by_grant : {V D : Type 0} (by : Ghosts V) (old new : UpdatedZone V D) (request : ReceivedRequest) (now : ℕ) (answer : Result Bool UpdateFault) (context : Option TSigResponseContext)
-    → Updates by old request now answer context new → new ≢ old → IsGrantedTo old request
+    → Updates by old (request, now) answer context new → new ≢ old → IsGrantedTo old request
 by_grant by old new request now answer context (granted is made same) other = is
 by_grant by old new request now answer context (outside is refused same) other = absurd (other same)
 
 stay : {V D : Type 0} (by : Ghosts V) (old new : UpdatedZone V D) (request : ReceivedRequest) (now : ℕ) (answer : Result Bool UpdateFault) (context : Option TSigResponseContext)
-    → Updates by old request now answer context new
+    → Updates by old (request, now) answer context new
     → (new.policy ≡ old.policy) × (new.parent ≡ old.parent) × (new.zone.kept.is_journalled ≡ old.zone.kept.is_journalled)
     × (new.zone.kept.holds ≡ old.zone.kept.holds)
 stay {V} {D} by old new request now answer context (granted is made same) =

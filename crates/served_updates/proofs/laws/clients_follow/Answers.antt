@@ -4,7 +4,7 @@ use Rattle.wire_messages.specs.declared.rr.tsig.TSigResponseContext.{TSigRespons
 use Rattle.hickory_base.specs.requests.Requests.{ReceivedRequest}
 use Rattle.hickory_base.specs.zone_store.ZoneAnswers.{MemoryZone}
 use Rattle.hickory_base.specs.declared.errors.UpdateFault.{UpdateFault}
-use Rattle.hickory_store.specs.declared.sqlite.verifier.Verifier.{Ghosts}
+use Rattle.hickory_store.specs.declared.updates.verifier.Verifier.{Ghosts}
 use Rattle.zone_differences.specs.declared.difference.Difference.{Difference}
 use Rattle.incremental_zone.specs.IncrementalZones.{now_of}
 use Rattle.incremental_zone.specs.Versions as inner
@@ -31,7 +31,7 @@ module _ {V : Type 0} (D : Type 0) (by : Ghosts V) where
     among : AreAmong had versions
 
   step : (first old new : UpdatedZone V D) (versions : List MemoryZone) (request : ReceivedRequest) (now : ℕ) (answer : Result Bool UpdateFault) (context : Option TSigResponseContext)
-      → Inside first versions old → Updates by old request now answer context new → Inside first (now_of old.zone ∷ versions) new
+      → Inside first versions old → Updates by old (request, now) answer context new → Inside first (now_of old.zone ∷ versions) new
   step first old new versions request now answer context inside (granted is made same) = record {
     had = now_of old.zone ∷ inside.had;
     serves = inner.answered request now answer context inside.serves made;

@@ -3,8 +3,8 @@ use Rattle.std.proofs.Common.{◌≡◌, inl, inr, Bool, Option, Result, Ok, Err
 use Rattle.wire_messages.specs.declared.rr.tsig.TSigResponseContext.{TSigResponseContext}
 use Rattle.hickory_base.specs.declared.errors.UpdateFault.{UpdateFault}
 use Rattle.hickory_base.specs.declared.errors.UpdateFault.TheVariants as update_fault
-use Rattle.hickory_store.specs.Permission.{Permission, update_permission}
-use Rattle.hickory_store.specs.declared.sqlite.verifier.Verifier.{Ghosts}
+use Rattle.hickory_store.specs.updates.Permission.{Permission, update_permission}
+use Rattle.hickory_store.specs.declared.updates.verifier.Verifier.{Ghosts}
 use Rattle.durable_zone.specs.DurableZones as durable
 use Rattle.served_updates.specs.UpdatedZones.{AcknowledgedAreMade, IsOutside, UpdatesOfMemory, outside_code}
 use Rattle.served_updates.specs.UpdatedZones.Updates.{granted, outside}

@@ -4,4 +4,5 @@ use Rattle.served_updates.specs.Moved.{AreMoved}
 use Rattle.served_updates.proofs.moving.move_zones.Given as goal
 
 abbrev pub invariant-loop-zone : goal.invariant-loop-zone
-invariant-loop-zone g l = AreMoved l.keys l.grants (take l.zone-index l.loaded) l.fn.zones.zones l.zones.zones l.fn.made.zones l.made.zones × (l.made ≡ record l.fn.made { zones = l.made.zones })
+invariant-loop-zone g l = AreMoved l.keys l.grants (take l.zone-index l.loaded) (record { fixed = l.fn.zones.zones; updated = l.fn.made.zones }) (record { fixed = l.zones.zones; updated = l.made.zones })
+    × (l.made ≡ record l.fn.made { zones = l.made.zones })

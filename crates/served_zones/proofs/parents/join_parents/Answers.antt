@@ -1,7 +1,7 @@
 use Rattle.std.proofs.Common.{Option, ap, option_map, refl, rules, subst, ◌∙◌}
 use Rattle.std.specs.Global.{Global}
 use Rattle.std.specs.declared.rc.Rc.{Rc}
-use Rattle.hickory_store.specs.BlockAnswers.{Blocklist}
+use Rattle.hickory_store.specs.blocklist.BlockAnswers.{Blocklist}
 use Rattle.served_zones.specs.ServedZones.{Joins, more, none}
 use Rattle.served_zones.proofs.Loops.{copied_map, one_more, zones_alone}
 use Rattle.served_zones.proofs.parents.join_parents.Goals as goal

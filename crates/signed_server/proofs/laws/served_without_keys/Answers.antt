@@ -1,4 +1,4 @@
-use Rattle.hickory_catalog.specs.Server.{server_of}
+use Rattle.hickory_catalog.specs.requests.Server.{server_of}
 use Rattle.signed_server.proofs.Keyless.{as_served, by_nobody}
 use Rattle.signed_server.proofs.laws.served_without_keys.Goals as goal
 

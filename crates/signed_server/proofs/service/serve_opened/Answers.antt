@@ -16,6 +16,6 @@ returns-clause-ok g c =
     let are : AreOpen c.args.server.now.rules theirs = record {
       others = refl;
       none_denied = rw c.replace-closed.ensures.after c.new.ensures.deny;
-      all_allowed = rw c.replace-closed.ensures.after c.new.ensures.allow;
+      none_listed = rw c.replace-closed.ensures.after c.new.ensures.allow;
     } in
     if_ok_map c.serve-answer.result _ _ c.serve-answer.ensures.ok (λ answer served. (theirs, rw opened are, served))

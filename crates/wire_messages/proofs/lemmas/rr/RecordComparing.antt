@@ -4,7 +4,7 @@ use Rattle.std.specs.Bool.{IsTrue, beq}
 use Rattle.std.specs.Cmp.Lexicographic.{pointwise}
 use Rattle.std.proofs.lemmas.Bool.{eq-eqb, eqb-true}
 use Rattle.wire_names.specs.rr.domain.DomainName.{DomainName}
-use Rattle.wire_names.specs.rr.domain.NameHash.{same_from_eq}
+use Rattle.wire_names.specs.representation.NameHash.{same_from_eq}
 use Rattle.wire_names.specs.rr.domain.NameOrder.{lower_name, lower_labels, name_eq, SameName}
 use Rattle.wire_names.proofs.lemmas.rr.domain.SameNames.{eq_from_same}
 use Rattle.wire_messages.specs.rr.RecordSameness.{lower_tsig}

@@ -2,6 +2,7 @@
 -- record reads back as itself.
 use Rattle.std.specs.Prelude.{◌≢◌, ◌<◌, ◌^◌, [], length}
 use Rattle.std.specs.List.{AllByRecursion}
+use Rattle.wire_messages.specs.Numbers.{type_a, type_aaaa, type_cname, type_mx, type_ns, type_null, type_opt, type_ptr, type_soa, type_tsig, type_txt}
 use Rattle.wire_messages.specs.rr.Addresses.{IsIpv4, IsIpv6}
 use Rattle.wire_messages.specs.rr.RecordData.{IsOption}
 use Rattle.wire_messages.specs.serialize.layout.NameLayout.{IsFullyQualified}
@@ -39,6 +40,6 @@ IsReadAsItsType (rdata.SOA soa) = IsFullyQualified soa.mname × IsFullyQualified
 IsReadAsItsType (rdata.TXT strings) = strings ≢ []
 IsReadAsItsType (rdata.TSIG t) = IsFullyQualified t.algorithm
 IsReadAsItsType (rdata.NULL octets) = octets ≢ []
-IsReadAsItsType (rdata.Update0 code) = (code ≢ 41) × (code ≢ 250)
-IsReadAsItsType (rdata.Unknown code octets) = (octets ≢ []) × (code ≢ 1) × (code ≢ 2) × (code ≢ 5) × (code ≢ 6) × (code ≢ 10) × (code ≢ 12) × (code ≢ 15) × (code ≢ 16) × (code ≢ 28) × (code ≢ 41) × (code ≢ 250)
+IsReadAsItsType (rdata.Update0 code) = (code ≢ type_opt) × (code ≢ type_tsig)
+IsReadAsItsType (rdata.Unknown code octets) = (octets ≢ []) × (code ≢ type_a) × (code ≢ type_ns) × (code ≢ type_cname) × (code ≢ type_soa) × (code ≢ type_null) × (code ≢ type_ptr) × (code ≢ type_mx) × (code ≢ type_txt) × (code ≢ type_aaaa) × (code ≢ type_opt) × (code ≢ type_tsig)
 IsReadAsItsType content = Unit {0}

@@ -1,5 +1,6 @@
 -- How a message stands in bytes: its header, its sections one behind the other, and what each section may hold (RFC 1035 section 4.1).
 use Rattle.std.specs.Prelude.{◌≡◌, ℕ, ◌+◌, ◌*◌, ◌/◌, ◌%◌, ◌^◌, List, [], ◌∷◌, ◌++◌, Bool, false, not, ◌||◌, filter, map, Option, Some, None, option_to_list, ◌==◌}
+use Rattle.wire_messages.specs.Numbers.{type_opt, type_sig, type_tsig}
 use Rattle.wire_messages.specs.op.EdnsFields.{EdnsFields}
 use Rattle.wire_messages.specs.serialize.layout.QuestionLayout.{QuestionAt, IsFormedQuestion}
 use Rattle.wire_messages.specs.rr.RecordData.{type_of}
@@ -24,7 +25,7 @@ pub record QuestionRead (bytes : List ℕ) (place : ℕ) (query : Query) (next :
 -- the types OPT, TSIG and SIG: OPT and TSIG belong in the additional section alone (RFC 6891 section 6.1.1, RFC 8945 section 5.2), and
 -- so does SIG(0) (RFC 2931 section 3.1), for which every SIG is taken here
 abbrev pub is_for_additionals_alone : ℕ → Bool
-is_for_additionals_alone kind = kind == 41 || kind == 250 || kind == 24
+is_for_additionals_alone kind = kind == type_opt || kind == type_tsig || kind == type_sig
 
 -- no OPT, TSIG or SIG
 abbrev pub IsPlainRecord : Record RData → Type 0
@@ -32,21 +33,25 @@ IsPlainRecord r = is_for_additionals_alone (type_of r.rdata) ≡ false
 
 -- whether a record is an OPT, and whether it is a TSIG
 abbrev pub is_opt : Record RData → Bool
-is_opt r = type_of r.rdata == 41
+is_opt r = type_of r.rdata == type_opt
 
 abbrev pub is_tsig : Record RData → Bool
-is_tsig r = type_of r.rdata == 250
+is_tsig r = type_of r.rdata == type_tsig
 
--- what an OPT record of these options says (RFC 6891 sections 6.1.2 and 6.1.3)
-abbrev pub edns_of : Record RData → List EdnsOption → EdnsFields
-edns_of r options = record {
-  max_payload = r.dns_class;
-  rcode_high = r.ttl / 2 ^ 24;
-  version = r.ttl / 2 ^ 16 % 256;
-  dnssec_ok = r.ttl / 2 ^ 15 % 2 == 1;
-  reserved_flags = r.ttl % 2 ^ 15;
+-- what an OPT record of this class, this TTL and these options says (RFC 6891 sections 6.1.2 and 6.1.3)
+abbrev pub edns_said : ℕ → ℕ → List EdnsOption → EdnsFields
+edns_said class ttl options = record {
+  max_payload = class;
+  rcode_high = ttl / 2 ^ 24;
+  version = ttl / 2 ^ 16 % 256;
+  dnssec_ok = ttl / 2 ^ 15 % 2 == 1;
+  reserved_flags = ttl % 2 ^ 15;
   options = options;
 }
+
+-- what the OPT record of these options says
+abbrev pub edns_of : Record RData → List EdnsOption → EdnsFields
+edns_of r options = edns_said r.dns_class r.ttl options
 
 -- An OPT record at the root that says this (RFC 6891 sections 6.1.2 and 6.1.3).
 pub record SaysEdns (r : Record RData) (edns : EdnsFields) : Type 0 where

@@ -3,6 +3,7 @@ use Rattle.std.specs.Prelude.{◌≡◌, ◌≢◌, ℕ, ◌+◌, ◌≤◌, ◌
 use Rattle.std.specs.List.{AllByRecursion, flat_map}
 use Rattle.std.specs.Int.{w16, w32, to_be_bytes}
 use Rattle.std.specs.Net.Addr.{ipv4_octets, ipv6_octets}
+use Rattle.wire_messages.specs.Numbers.{type_a, type_aaaa, type_cname, type_mx, type_ns, type_null, type_opt, type_ptr, type_soa, type_tsig, type_txt}
 use Rattle.wire_messages.specs.rr.Addresses.{IsIpv4, IsIpv6}
 use Rattle.wire_names.specs.serialize.layout.Bytes.{BytesAt}
 use Rattle.wire_messages.specs.serialize.layout.NameLayout.{NameAt, IsFullyQualified}
@@ -86,8 +87,8 @@ IsFormed (rdata.TXT strings) = (strings ≢ []) × AllByRecursion (λ text. leng
 IsFormed (rdata.OPT options) = AllByRecursion IsOption options
 IsFormed (rdata.TSIG t) = (t.time < 2 ^ 48) × (t.fudge < 2 ^ 16) × (length t.mac < 2 ^ 16) × (t.oid < 2 ^ 16) × (t.error < 2 ^ 16) × (length t.other < 2 ^ 16) × IsFullyQualified t.algorithm
 IsFormed (rdata.NULL octets) = octets ≢ []
-IsFormed (rdata.Update0 code) = (code < 2 ^ 16) × (code ≢ 41) × (code ≢ 250)
-IsFormed (rdata.Unknown code octets) = (code < 2 ^ 16) × (octets ≢ []) × (code ≢ 1) × (code ≢ 2) × (code ≢ 5) × (code ≢ 6) × (code ≢ 10) × (code ≢ 12) × (code ≢ 15) × (code ≢ 16) × (code ≢ 28) × (code ≢ 41) × (code ≢ 250)
+IsFormed (rdata.Update0 code) = (code < 2 ^ 16) × (code ≢ type_opt) × (code ≢ type_tsig)
+IsFormed (rdata.Unknown code octets) = (code < 2 ^ 16) × (octets ≢ []) × (code ≢ type_a) × (code ≢ type_ns) × (code ≢ type_cname) × (code ≢ type_soa) × (code ≢ type_null) × (code ≢ type_ptr) × (code ≢ type_mx) × (code ≢ type_txt) × (code ≢ type_aaaa) × (code ≢ type_opt) × (code ≢ type_tsig)
 
 -- A record whose numbers, names and octets are such as are read. It reads back as itself where its octets keep their lengths too.
 pub record IsFormedRecord (r : Record RData) : Type 0 where

@@ -1,6 +1,7 @@
 -- Resource records and questions as they are read, with the first fault that is met (RFC 1035 sections 4.1.2 and 4.1.3).
 use Rattle.std.specs.Prelude.{ℕ, zero, suc, ◌+◌, ◌-◌, ◌*◌, ◌^◌, List, [], ◌∷◌, length, take, drop, Option, Some, None, option_map, unwrap_or, Ok, Err, nat_lt, ◌==◌, ◌&&◌, not, if◌then◌else◌}
 use Rattle.std.specs.Int.{w16, w32}
+use Rattle.wire_messages.specs.Numbers.{type_a, type_aaaa, type_cname, type_mx, type_ns, type_null, type_opt, type_ptr, type_soa, type_tsig, type_txt}
 use Rattle.wire_messages.specs.rr.Addresses.{ipv4_of, ipv6_of}
 use Rattle.wire_messages.specs.serialize.reading.Cursor.{Cursor}
 use Rattle.wire_messages.specs.serialize.reading.Reading.{Read, ◌>>=◌, number, octets, rest_of, moved}
@@ -88,25 +89,25 @@ tsig c = do
 -- data of a type, of so many bytes, in the type's form
 unfoldable pub form : ℕ → ℕ → Cursor → Read RData
 form kind len c =
-    if kind == 1 then (octets 4 c >>= λ x. Ok (rdata.A (ipv4_of x.0), x.1))
-    else (if kind == 28 then (octets 16 c >>= λ x. Ok (rdata.AAAA (ipv6_of x.0), x.1))
-    else (if kind == 2 then (name c >>= λ x. Ok (rdata.NS x.0, x.1))
-    else (if kind == 5 then (name c >>= λ x. Ok (rdata.CNAME x.0, x.1))
-    else (if kind == 12 then (name c >>= λ x. Ok (rdata.PTR x.0, x.1))
-    else (if kind == 15 then mx c
-    else (if kind == 6 then soa c
-    else (if kind == 16 then (strings_until (c.place + len) c >>= λ x. Ok (rdata.TXT x.0, x.1))
-    else (if kind == 41 then (octets len c >>= λ x. Ok (rdata.OPT (options_of x.0), x.1))
-    else (if kind == 250 then tsig c
-    else (if kind == 10 then (octets len c >>= λ x. Ok (rdata.NULL x.0, x.1))
+    if kind == type_a then (octets 4 c >>= λ x. Ok (rdata.A (ipv4_of x.0), x.1))
+    else (if kind == type_aaaa then (octets 16 c >>= λ x. Ok (rdata.AAAA (ipv6_of x.0), x.1))
+    else (if kind == type_ns then (name c >>= λ x. Ok (rdata.NS x.0, x.1))
+    else (if kind == type_cname then (name c >>= λ x. Ok (rdata.CNAME x.0, x.1))
+    else (if kind == type_ptr then (name c >>= λ x. Ok (rdata.PTR x.0, x.1))
+    else (if kind == type_mx then mx c
+    else (if kind == type_soa then soa c
+    else (if kind == type_txt then (strings_until (c.place + len) c >>= λ x. Ok (rdata.TXT x.0, x.1))
+    else (if kind == type_opt then (octets len c >>= λ x. Ok (rdata.OPT (options_of x.0), x.1))
+    else (if kind == type_tsig then tsig c
+    else (if kind == type_null then (octets len c >>= λ x. Ok (rdata.NULL x.0, x.1))
     else (octets len c >>= λ x. Ok (rdata.Unknown kind x.0, x.1))))))))))))
 
 -- Data lie in the message; without a byte they are those of an update, but for OPT and TSIG; and they end where their length says.
 unfoldable pub record_data : ℕ → ℕ → Cursor → Read RData
 record_data kind len c =
     if nat_lt (length (rest_of c)) len then Err InsufficientBytes
-    else (if len == 0 && not (kind == 41) && not (kind == 250) then Ok (rdata.Update0 kind, c)
-    else (if len == 0 && kind == 250 then Err IncorrectDataLength
+    else (if len == 0 && not (kind == type_opt) && not (kind == type_tsig) then Ok (rdata.Update0 kind, c)
+    else (if len == 0 && kind == type_tsig then Err IncorrectDataLength
     else (form kind len c >>= λ x. if x.1.place == c.place + len then Ok x else Err IncorrectDataLength)))
 
 unfoldable pub resource : Cursor → Read (Record RData)

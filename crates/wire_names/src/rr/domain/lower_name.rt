@@ -7,8 +7,8 @@ ghost use Rattle.std.specs.Cmp.Rules.{comparing};
 ghost use Rattle.std.proofs.Common.{rules};
 ghost use Rattle.wire_names.specs.rr.domain.DomainName.{DomainName};
 ghost use Rattle.wire_names.specs.rr.domain.NameOrder.{Encloses, IsSharedEnd, name_cmp, name_eq, name_cmp_total, lower_name, lower_labels};
-ghost use Rattle.wire_names.specs.rr.domain.NameHash.{name_hash_input, name_hash_alike};
-ghost use Rattle.wire_names.specs.rr.domain.OrderKey.{order_key, order_word};
+ghost use Rattle.wire_names.specs.representation.NameHash.{name_hash_input, name_hash_alike};
+ghost use Rattle.wire_names.specs.representation.OrderKey.{order_key, order_word};
 ghost use Rattle.wire_names.specs.serialize.layout.Bytes.{AreBytes};
 
 use crate::rr::domain::name::Name;
@@ -35,15 +35,16 @@ pub struct LowerName {
 impl Model for LowerName {
     ghost use Rattle.std.specs.Prelude.{◌≡◌};
     ghost use Rattle.wire_names.specs.rr.domain.DomainName.{DomainName};
-    ghost use Rattle.wire_names.specs.rr.domain.NameBytes.{wire_bytes};
+    ghost use Rattle.wire_names.specs.representation.NameBytes.{wire_bytes};
     ghost use Rattle.wire_names.specs.rr.domain.NameOrder.{lower_labels};
-    ghost use Rattle.wire_names.specs.rr.domain.OrderKey.{order_key};
+    ghost use Rattle.wire_names.specs.representation.OrderKey.{order_key};
 
     ghost Value = { DomainName };
 
     ghost view = { λ lower. lower.name };
 
-    ghost invariant = { λ lower. (lower_labels lower.name.labels ≡ lower.name.labels) × (wire_bytes lower.key ≡ order_key lower.name.labels) };
+    ghost invariant = { λ lower. (lower_labels lower.name.labels ≡ lower.name.labels) ×
+        (wire_bytes lower.key ≡ order_key lower.name.labels) };
 }
 
 impl LowerName {

@@ -7,7 +7,7 @@ ghost use Rattle.std.specs.Cmp.Rules.{comparing};
 ghost use Rattle.std.proofs.Common.{rules};
 ghost use Rattle.wire_names.specs.rr.domain.DomainName.{AreLabels, DomainName, wire_form, IsWire, cut};
 ghost use Rattle.wire_names.specs.rr.domain.NameOrder.{name_cmp, name_eq, name_cmp_total, Encloses, is_wildcard, counted_labels, lower_name};
-ghost use Rattle.wire_names.specs.rr.domain.NameHash.{name_hash_input, name_hash_alike};
+ghost use Rattle.wire_names.specs.representation.NameHash.{name_hash_input, name_hash_alike};
 
 use crate::rr::domain::compare::compare_from_last;
 use crate::rr::domain::labels::MAX_NAME_LEN;
@@ -32,7 +32,7 @@ pub struct Name {
 
 impl Model for Name {
     ghost use Rattle.wire_names.specs.rr.domain.DomainName.{DomainName, IsWire, cut};
-    ghost use Rattle.wire_names.specs.rr.domain.NameBytes.{wire_bytes};
+    ghost use Rattle.wire_names.specs.representation.NameBytes.{wire_bytes};
 
     ghost Value = { DomainName };
 
@@ -118,7 +118,8 @@ impl Name {
     /// Leaves the last labels alone that take so many bytes in wire form.
     pub(crate) fn keep_last(&mut self, len: usize)
         requires { (n : ℕ) × (len ≡ length (wire_form (drop n self.old.labels))) }
-        ensures { (n : ℕ) → len ≡ length (wire_form (drop n self.old.labels)) → self.new ≡ record self.old { labels = drop n self.old.labels } }
+        ensures { (n : ℕ) → len ≡ length (wire_form (drop n self.old.labels)) →
+            self.new ≡ record self.old { labels = drop n self.old.labels } }
     {
         let front = self.wire.as_slice().len() - len;
         self.wire.remove_front(front);

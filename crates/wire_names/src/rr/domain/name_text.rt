@@ -47,7 +47,8 @@ fn read_text(text: &[u8], labels: &mut Labels) -> Option<bool>
     requires { labels.old ≡ [] }
     ensures { MatchOption result
         ((n : DomainName) → IsNameText text.now n → ⊥)
-        (λ is_fqdn. (n : DomainName) → IsNameText text.now n ↔ (n ≡ record { labels = labels.new; is_fqdn = is_fqdn })) }
+        (λ is_fqdn. (n : DomainName) → IsNameText text.now n ↔
+        (n ≡ record { labels = labels.new; is_fqdn = is_fqdn })) }
 {
     let mut rest = text;
     'labels: loop {

@@ -5,8 +5,8 @@ ghost use Rattle.std.specs.Ordering.{nat_cmp};
 ghost use Rattle.std.specs.Cmp.Lexicographic.{slice_cmp};
 ghost use Rattle.std.specs.Slice.Scan.{big_endian};
 ghost use Rattle.wire_names.specs.rr.domain.DomainName.{IsWire, cut, wire_form};
-ghost use Rattle.wire_names.specs.rr.domain.NameBytes.{wire_bytes};
-ghost use Rattle.wire_names.specs.rr.domain.OrderKey.{IsSharedFront, escaped, order_key};
+ghost use Rattle.wire_names.specs.representation.NameBytes.{wire_bytes};
+ghost use Rattle.wire_names.specs.representation.OrderKey.{IsSharedFront, escaped, order_key};
 
 use crate::rr::domain::wire::{SHORT_LEN, ShortBytes, Wire};
 use crate::values::words::{WORD_LEN, word_at};
@@ -111,7 +111,8 @@ fn make_key_in(room: &mut [u8], alloc: Global, wire: &[u8]) -> Result<Wire, Allo
 fn put_plain(room: &mut [u8], end: usize, label: &[u8]) -> Option<usize>
     requires enough { length label.now < end }
     requires within { end ≤ length room.old }
-    ensures { IfSome result (λ start. (start + length label.now + 1 ≡ end) × (drop start room.new ≡ escaped label.now ++ 0 ∷ drop end room.old)) }
+    ensures { IfSome result (λ start. (start + length label.now + 1 ≡ end) ×
+        (drop start room.new ≡ escaped label.now ++ 0 ∷ drop end room.old)) }
 {
     room[end - 1] = 0;
     let mut start = end - 1;

@@ -4,8 +4,8 @@ ghost use Rattle.std.specs.Prelude.{◌≡◌, ◌≤◌, [], ◌+◌, ◌-◌, 
 ghost use Rattle.std.specs.Char.{to_ascii_lowercase};
 ghost use Rattle.std.specs.Cmp.Lexicographic.{slice_cmp};
 ghost use Rattle.std.specs.Ordering.{nat_cmp};
-ghost use Rattle.wire_names.specs.rr.domain.NameBytes.{wire_bytes};
-ghost use Rattle.wire_names.specs.rr.domain.OrderKey.{word_behind};
+ghost use Rattle.wire_names.specs.representation.NameBytes.{wire_bytes};
+ghost use Rattle.wire_names.specs.representation.OrderKey.{word_behind};
 ghost use Rattle.wire_names.specs.serialize.layout.Bytes.{AreBytes};
 
 use crate::rr::domain::order_key::compare_keys;

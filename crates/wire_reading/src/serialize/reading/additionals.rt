@@ -67,7 +67,8 @@ impl Additionals {
 
     /// Behind a TSIG record no other may stand (RFC 8945, section 5.2).
     fn refuse_behind_signature(&self) -> Result<(), DecodeError>
-        ensures { MatchResult result (λ _. is_some self.now.signature ≡ false) (λ e. (is_some self.now.signature ≡ true) × (e ≡ RecordAfterSignature)) }
+        ensures { MatchResult result (λ _. is_some self.now.signature ≡ false)
+            (λ e. (is_some self.now.signature ≡ true) × (e ≡ RecordAfterSignature)) }
     {
         if self.signature.is_some() {
             return Err(DecodeError::RecordAfterSignature);
@@ -79,7 +80,8 @@ impl Additionals {
     #[inline(always)]
     #[tactic(auto, unfolding(crate::specs::serialize::reading::OptReading::add_edns))]
     pub(crate) fn add_edns(&mut self, edns: Edns) -> Result<(), DecodeError>
-        ensures { MatchResult result (λ _. add_edns self.old edns ≡ Ok self.new) (λ e. Fails e (add_edns self.old edns)) }
+        ensures { MatchResult result (λ _. add_edns self.old edns ≡ Ok self.new)
+            (λ e. Fails e (add_edns self.old edns)) }
     {
         self.refuse_behind_signature()?;
         if self.edns.is_some() {
@@ -92,7 +94,8 @@ impl Additionals {
     /// Puts the next record where its data belong. On an error nothing is promised of what was read before.
     #[tactic(auto, unfolding(wire_messages::specs::serialize::reading::SectionReading::add_record))]
     pub(crate) fn add(&mut self, alloc: Global, next: Record) -> Result<(), DecodeError>
-        ensures { MatchResult result (λ _. add_record self.old next ≡ Ok self.new) (λ e. Fails e (add_record self.old next)) }
+        ensures { MatchResult result (λ _. add_record self.old next ≡ Ok self.new)
+            (λ e. Fails e (add_record self.old next)) }
     {
         self.refuse_behind_signature()?;
         let Record {

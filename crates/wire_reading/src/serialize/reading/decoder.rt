@@ -46,7 +46,8 @@ impl<'a> Model for BinDecoder<'a> {
     ghost view = { λ decoder. record { bytes = decoder.bytes.now; place = decoder.index } };
 
     // The numbers of a message are those of bytes.
-    ghost invariant = { λ decoder. (decoder.index ≤ length decoder.bytes.now) × AreBytes decoder.bytes.now × IfSome decoder.known (λ names. names ≡ decoder.bytes.now) };
+    ghost invariant = { λ decoder. (decoder.index ≤ length decoder.bytes.now) × AreBytes decoder.bytes.now ×
+        IfSome decoder.known (λ names. names ≡ decoder.bytes.now) };
 }
 
 impl<'a> BinDecoder<'a> {
@@ -72,7 +73,8 @@ impl<'a> BinDecoder<'a> {
 
     /// The bytes from `start` up to this place. `InsufficientBytes` where `start` lies behind it.
     pub fn slice_from(&self, start: usize) -> Result<&'a [u8], DecodeError>
-        ensures found { IfOk result (λ s. (start ≤ self.now.place) × (s.now ≡ slice_range self.now.bytes start self.now.place)) }
+        ensures found { IfOk result (λ s. (start ≤ self.now.place) ×
+            (s.now ≡ slice_range self.now.bytes start self.now.place)) }
         ensures fault { IfErr result (λ e. (self.now.place < start) × (e ≡ InsufficientBytes)) }
     {
         if start > self.index {
@@ -229,8 +231,10 @@ impl<'a> BinDecoder<'a> {
     /// Then the place is the one behind it. An error is the first fault there, or `Memory`; the place is then left open.
     pub fn read_name(&mut self, alloc: Global) -> Result<Name, DecodeError>
         ensures exact { Gives result self.old self.new name }
-        ensures found { IfOk result (λ n. NameAt 0 self.old.bytes self.old.place n self.new.place × IsFullyQualified n) }
-        ensures only { (n : DomainName) (next : ℕ) → NameAt 0 self.old.bytes self.old.place n next → IsFullyQualified n → result ≢ Err Memory → (result ≡ Ok n) × (self.new.place ≡ next) }
+        ensures found { IfOk result (λ n. NameAt 0 self.old.bytes self.old.place n self.new.place ×
+            IsFullyQualified n) }
+        ensures only { (n : DomainName) (next : ℕ) → NameAt 0 self.old.bytes self.old.place n next →
+            IsFullyQualified n → result ≢ Err Memory → (result ≡ Ok n) × (self.new.place ≡ next) }
         ensures fault { IfErr result (λ e. e ≢ Memory → NameFault self.old.bytes self.old.place e) }
     {
         self.next_name(alloc)

@@ -91,7 +91,8 @@ impl<'a> BinDecoder<'a> {
         ensures low { IfOk result (λ h. h.metadata.response_code < 16) }
         // At the front of a message, what is read stands there (RFC 1035 section 4.1.1), and what stands there is read.
         ensures found { self.old.place ≡ 0 → IfOk result (λ h. HeaderAt self.old.bytes h × (self.new.place ≡ 12)) }
-        ensures only { (h : Header) → self.old.place ≡ 0 → HeaderAt self.old.bytes h → (result ≡ Ok h) × (self.new.place ≡ 12) }
+        ensures only { (h : Header) → self.old.place ≡ 0 → HeaderAt self.old.bytes h → (result ≡ Ok h) ×
+            (self.new.place ≡ 12) }
     {
         // That the message is made of bytes is known once it is looked at.
         let _message = self.message();

@@ -1,7 +1,7 @@
 //! What the names of a message lead to, kept by place, so that a place that many names lead through is walked once.
 
 ghost use Rattle.std.specs.Prelude.{◌≡◌, ◌≤◌, ℕ, List, length, drop, Some, IfOk, IfSome, slice_get};
-ghost use Rattle.wire_reading.specs.serialize.reading.KnownNames.{IsRest, Holds, AreRests, labels_of};
+ghost use Rattle.wire_reading.specs.representation.KnownNames.{IsRest, Holds, AreRests, labels_of};
 
 use crate::serialize::reading::name_reader::{LABEL_LIMIT, POINTER_BITS};
 use std::alloc::{AllocError, Global};
@@ -33,7 +33,7 @@ pub(crate) struct KnownNames<'a> {
 
 impl<'a> Model for KnownNames<'a> {
     ghost use Rattle.std.specs.Prelude.{List, ℕ};
-    ghost use Rattle.wire_reading.specs.serialize.reading.KnownNames.{AreRests};
+    ghost use Rattle.wire_reading.specs.representation.KnownNames.{AreRests};
 
     ghost Value = { List ℕ };
 
@@ -74,7 +74,8 @@ fn least_start(bytes: &[u8], rests: &Vec<Option<Rest>>, place: usize) -> usize
 
 /// Notes the rest at a place that a pointer can lead to. Answers whether none was noted there before.
 fn note(rests: &mut Vec<Option<Rest>>, place: usize, rest: Rest) -> bool
-    ensures { (bytes labels : List ℕ) → AreRests bytes labels rests.old.items → Holds bytes labels place rest → AreRests bytes labels rests.new.items }
+    ensures { (bytes labels : List ℕ) → AreRests bytes labels rests.old.items → Holds bytes labels place rest →
+        AreRests bytes labels rests.new.items }
 {
     if place >= rests.len() {
         return true;

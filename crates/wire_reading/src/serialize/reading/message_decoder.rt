@@ -95,7 +95,9 @@ impl<'a> BinDecoder<'a> {
         alloc: Global,
         additionals: &mut Additionals,
     ) -> Result<(), DecodeError>
-        ensures exact { MatchResult result (λ _. additionals_after 1 additionals.old self.old ≡ Ok (additionals.new, self.new)) (λ e. Fails e (additionals_after 1 additionals.old self.old)) }
+        ensures exact { MatchResult result
+            (λ _. additionals_after 1 additionals.old self.old ≡ Ok (additionals.new, self.new))
+            (λ e. Fails e (additionals_after 1 additionals.old self.old)) }
         ensures kept { self.new.bytes ≡ self.old.bytes }
     {
         if self.skip_opt_front() {

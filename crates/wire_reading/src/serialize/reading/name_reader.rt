@@ -1,7 +1,7 @@
 //! Reading a name from the bytes of a message.
 
 ghost use Rattle.std.specs.Prelude.{◌≡◌, ◌≢◌, ◌≤◌, ◌++◌, List, length, map, MatchResult, IfOk, IfSome, slice_get, slice_range, ◌<◌, ◌+◌, true, Some, ℕ};
-ghost use Rattle.wire_reading.specs.serialize.reading.KnownNames.{IsRest};
+ghost use Rattle.wire_reading.specs.representation.KnownNames.{IsRest};
 ghost use Rattle.wire_names.specs.declared.error.DecodeError.TheVariants.{Memory, NameTooLong};
 ghost use Rattle.wire_messages.specs.serialize.reading.NameReading.{labels_from, target};
 ghost use Rattle.wire_messages.specs.serialize.layout.NameLayout.{LabelsFault};
@@ -56,7 +56,8 @@ fn pointer_target(
     requires high { slice_get bytes.now place ≡ Some high }
     requires pointer { (192 ≤ high) × (high < 256) }
     ensures { MatchResult result
-        (λ goal. (goal < start) × (place + 2 ≤ length bytes.now) × ((low : ℕ) × (slice_get bytes.now (place + 1) ≡ Some low) × (goal ≡ target high low)))
+        (λ goal. (goal < start) × (place + 2 ≤ length bytes.now) ×
+        ((low : ℕ) × (slice_get bytes.now (place + 1) ≡ Some low) × (goal ≡ target high low)))
         (λ e. (size : ℕ) → LabelsFault bytes.now start place size e) }
 {
     let Some(low) = byte_at(bytes, place + 1) else {
@@ -77,7 +78,8 @@ fn known_rest<'a>(
     place: usize,
 ) -> Option<(&'a [u8], usize)>
     ensures behind { IfSome result (λ x. after ≡ Some x.1) }
-    ensures rest { (bytes : List ℕ) → IfSome known.now (λ names. names ≡ bytes) → IfSome result (λ x. IsRest bytes start place x.0.now) }
+    ensures rest { (bytes : List ℕ) → IfSome known.now (λ names. names ≡ bytes) →
+        IfSome result (λ x. IsRest bytes start place x.0.now) }
 {
     let names = known.as_ref()?;
     let after = after?;
@@ -89,7 +91,8 @@ fn known_rest<'a>(
 fn name_with_rest(alloc: Global, labels: &mut Labels, rest: &[u8]) -> Result<Name, DecodeError>
     requires { IsWire rest.now }
     ensures { MatchResult result
-        (λ name. (name ≡ record { labels = labels.old ++ cut rest.now; is_fqdn = true }) × (length (wire_form labels.old) + length rest.now < 255))
+        (λ name. (name ≡ record { labels = labels.old ++ cut rest.now; is_fqdn = true }) ×
+        (length (wire_form labels.old) + length rest.now < 255))
         (λ e. e ≢ Memory → (e ≡ NameTooLong) × (255 ≤ length (wire_form labels.old) + length rest.now)) }
 {
     if labels.wire_len() + rest.len() >= MAX_NAME_LEN {
@@ -104,7 +107,8 @@ fn name_with_rest(alloc: Global, labels: &mut Labels, rest: &[u8]) -> Result<Nam
 pub(crate) fn plain_end(bytes: &[u8], from: usize) -> Option<usize>
     ensures within { IfSome result (λ end. (from ≤ end) × (end < length bytes.now)) }
     ensures wire { IfSome result (λ end. IsWire (slice_range bytes.now from end)) }
-    ensures reads { IfSome result (λ end. labels_from bytes.now from from 1 ≡ Ok (cut (slice_range bytes.now from end), end + 1)) }
+    ensures reads { IfSome result (λ end. labels_from bytes.now from from 1 ≡ Ok
+        (cut (slice_range bytes.now from end), end + 1)) }
 {
     let mut place = from;
     while place - from < MAX_NAME_LEN {
@@ -142,8 +146,7 @@ fn read_by_labels(
     let mut steps = 0usize;
     'labels: loop {
         if let Some((rest, next)) = known_rest(known, after, start, place) {
-            let whole = name_with_rest(alloc, &mut labels, rest)?;
-            return Ok((whole, next, steps));
+            return Ok((name_with_rest(alloc, &mut labels, rest)?, next, steps));
         }
         let Some(high) = byte_at(bytes, place) else {
             return Err(DecodeError::InsufficientBytes);
@@ -162,10 +165,9 @@ fn read_by_labels(
         } else if high < POINTER_BITS {
             return Err(DecodeError::UnrecognizedLabelCode);
         } else {
-            let target = pointer_target(bytes, start, place, high)?;
+            start = pointer_target(bytes, start, place, high)?;
             after = Some(after.unwrap_or(place + 2));
-            start = target;
-            place = target;
+            place = start;
         }
     }
 }

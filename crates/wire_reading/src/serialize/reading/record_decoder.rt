@@ -244,7 +244,8 @@ impl<'a> BinDecoder<'a> {
     pub fn read_record(&mut self, alloc: Global) -> Result<Record, DecodeError>
         ensures exact { Gives result self.old self.new resource }
         ensures found { IfOk result (λ r. RecordAt self.old.bytes self.old.place r self.new.place) }
-        ensures only { (r : ResourceRecord Data) (next : ℕ) → RecordAt self.old.bytes self.old.place r next → result ≢ Err Memory → (result ≡ Ok r) × (self.new.place ≡ next) }
+        ensures only { (r : ResourceRecord Data) (next : ℕ) → RecordAt self.old.bytes self.old.place r next →
+            result ≢ Err Memory → (result ≡ Ok r) × (self.new.place ≡ next) }
         ensures fault { IfErr result (λ e. e ≢ Memory → RecordFault self.old.bytes self.old.place e) }
     {
         // That the message is made of bytes is known once it is looked at.
@@ -291,7 +292,8 @@ impl<'a> BinDecoder<'a> {
     pub fn read_query(&mut self, alloc: Global) -> Result<Query, DecodeError>
         ensures exact { Gives result self.old self.new question }
         ensures found { IfOk result (λ q. QuestionRead self.old.bytes self.old.place q self.new.place) }
-        ensures only { (q : Question) (next : ℕ) → QuestionRead self.old.bytes self.old.place q next → result ≢ Err Memory → (result ≡ Ok q) × (self.new.place ≡ next) }
+        ensures only { (q : Question) (next : ℕ) → QuestionRead self.old.bytes self.old.place q next →
+            result ≢ Err Memory → (result ≡ Ok q) × (self.new.place ≡ next) }
         ensures fault { IfErr result (λ e. e ≢ Memory → QuestionFault self.old.bytes self.old.place e) }
     {
         // That the message is made of bytes is known once it is looked at.

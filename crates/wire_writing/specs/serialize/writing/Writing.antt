@@ -1,5 +1,6 @@
 -- What bytes a reply may be written as under a limit (RFC 1035 sections 4.1.1, 4.1.4 and 4.2.1).
--- Records are left out one by one, and TC tells of any that were: also of additionals, which RFC 2181 section 9 would let go silently.
+-- Records are left out one by one, and TC tells of any that were: also of additionals, which RFC 2181 section 9 would
+-- let go silently.
 use Rattle.std.specs.Prelude.{◌≡◌, ℕ, ◌+◌, ◌<◌, ◌≤◌, ◌^◌, List, [], ◌∷◌, ◌++◌, length, take, drop, replicate, map, Bool, true, false, ◌||◌, Option, Some, None, option_to_list, option_map}
 use Rattle.wire_messages.specs.serialize.writing.FullForm.{EndsInFull}
 use Rattle.wire_messages.specs.serialize.layout.FieldRanges.{IsRecordInRange}
@@ -18,9 +19,9 @@ use Rattle.wire_messages.specs.declared.op.header.MessageType.TheVariants.{Respo
 use Rattle.wire_messages.specs.declared.rr.rdata.RData.{RData}
 use Rattle.wire_messages.specs.declared.rr.record.Record.{Record}
 
--- new is old with the record behind it, in at most its full size and within the limit. Names in it may be compressed by pointers to
--- earlier places outside the header at which the same labels stand (RFC 1035 section 4.1.4); a pointer reaches places below 2 ^ 14. The data of
--- a TSIG are in full. The record's numbers are such as its fields hold.
+-- new is old with the record behind it, in at most its full size and within the limit. Names in it may be compressed by
+-- pointers to earlier places outside the header at which the same labels stand (RFC 1035 section 4.1.4); a pointer
+-- reaches places below 2 ^ 14. The data of a TSIG are in full. The record's numbers are such as its fields hold.
 pub record Puts (limit : ℕ) (old : List ℕ) (r : Record RData) (new : List ℕ) : Type 0 where
   pub more : List ℕ
   pub formed : unwritable_reason r.rdata ≡ None
@@ -36,8 +37,8 @@ abbrev pub PutsAll : ℕ → List ℕ → List (Record RData) → List ℕ → T
 PutsAll limit old [] new = new ≡ old
 PutsAll limit old (r ∷ rs) new = (middle : List ℕ) × Puts limit old r middle × PutsAll limit middle rs new
 
--- The records of sections are put one behind the other, behind records at the places told, and each that has the owner name of one before repeats it as a
--- pointer.
+-- The records of sections are put one behind the other, behind records at the places told, and each that has the owner
+-- name of one before repeats it as a pointer.
 abbrev pub PutsRepeating : ℕ → List OwnerPlace → List ℕ → List (Record RData) → List ℕ → Type 0
 PutsRepeating limit before old [] new = new ≡ old
 PutsRepeating limit before old (r ∷ rs) new = (middle : List ℕ) × Puts limit old r middle × RepeatsOwner before middle (length old) r.name.labels
@@ -89,7 +90,8 @@ ending_of false = whole
 abbrev pub nothing_put : ListFront
 nothing_put = record { count = 0; is_cut = false }
 
--- Lists are written one behind the other, each cut by itself, up to the last one or to a record without a form. Behind that nothing is put.
+-- Lists are written one behind the other, each cut by itself, up to the last one or to a record without a form. Behind
+-- that nothing is put.
 pub data ListsWritten (limit : ℕ) : List (List (Record RData)) → List ℕ → List ℕ → List ListFront → Option ProtoError → Type 0 where
   none_left : {bytes : List ℕ} → ListsWritten limit [] bytes bytes [] None
   next_list : {records : List (Record RData)} {lists : List (List (Record RData))} {old middle new : List ℕ} {front : ListFront} {fronts : List ListFront} {fault : Option ProtoError}
@@ -114,8 +116,8 @@ fronts_list f = f.answers ∷ f.authorities ∷ f.additionals ∷ f.opt ∷ f.si
 abbrev pub is_any_cut : Fronts → Bool
 is_any_cut f = f.answers.is_cut || f.authorities.is_cut || f.additionals.is_cut || f.opt.is_cut || f.signature.is_cut
 
--- the header of what was written: TC is the reply's own, or set where any list was cut; the counts are those of the questions and of
--- what was written, OPT and TSIG among the additionals
+-- the header of what was written: TC is the reply's own, or set where any list was cut; the counts are those of the
+-- questions and of what was written, OPT and TSIG among the additionals
 abbrev pub header_with : Metadata → ℕ → Fronts → Header
 header_with metadata question_count f = record {
   metadata = record metadata { truncation = metadata.truncation || is_any_cut f };
@@ -133,7 +135,8 @@ section_records reply put = take put.answers.count reply.answers ++ take put.aut
 abbrev pub last_records : Reply → Fronts → List (Record RData)
 last_records reply put = take put.opt.count (option_to_list (option_map opt_record reply.edns)) ++ take put.signature.count (option_to_list (option_map tsig_record reply.signature))
 
--- Behind old so many records of each list are put. In the sections an owner name that stood before as one is a pointer, where a pointer reaches it.
+-- Behind old so many records of each list are put. In the sections an owner name that stood before as one is a pointer,
+-- where a pointer reaches it.
 pub record OwnersRepeat (limit : ℕ) (old : List ℕ) (reply : Reply) (put : Fronts) (new : List ℕ) : Type 0 where
   pub sections : List ℕ
   pub repeating : PutsRepeating limit [] old (section_records reply put) sections
@@ -143,8 +146,8 @@ pub record OwnersRepeat (limit : ℕ) (old : List ℕ) (reply : Reply) (put : Fr
 abbrev pub header_and_questions : Reply → List ℕ
 header_and_questions reply = replicate 12 0 ++ reply.question
 
--- The bytes are the reply within the limit, of whose lists so much was written. Header and questions fit the limit, which is one of 16 bits, and the
--- numbers of the header and of EDNS are such as their fields hold.
+-- The bytes are the reply within the limit, of whose lists so much was written. Header and questions fit the limit,
+-- which is one of 16 bits, and the numbers of the header and of EDNS are such as their fields hold.
 pub record Written (limit : ℕ) (reply : Reply) (bytes : List ℕ) (fronts : Fronts) : Type 0 where
   pub body : List ℕ
   pub limited : limit < 2 ^ 16
@@ -166,8 +169,8 @@ pub record GetsStuck (limit : ℕ) (reply : Reply) (e : ProtoError) : Type 0 whe
 abbrev pub fallback_header : ℕ → Header
 fallback_header id = record { metadata = record (bare_metadata id Response 0) { response_code = 2 }; counts = record { queries = 0; answers = 0; authorities = 0; additionals = 0 } }
 
--- A reply encoded within a limit, and its header, with the whole response code: the reply written; or, where header and questions pass the
--- limit or a record without a form is met, twelve bytes that say ServFail.
+-- A reply encoded within a limit, and its header, with the whole response code: the reply written; or, where header and
+-- questions pass the limit or a record without a form is met, twelve bytes that say ServFail.
 pub data Encoded (limit : ℕ) (reply : Reply) (bytes : List ℕ) : Header → Type 0 where
   written : {fronts : Fronts} → Written limit reply bytes fronts → Encoded limit reply bytes (written_header reply fronts)
   too_large : limit < 12 + length reply.question → bytes ≡ header_octets (fallback_header reply.metadata.id) → Encoded limit reply bytes (fallback_header reply.metadata.id)

@@ -2,9 +2,9 @@
 
 ghost use Rattle.std.specs.Prelude.{◌≡◌, ℕ, ◌<◌, ◌++◌, ◌∷◌, [], length, take, replicate, OnOk, OnErr, IfOk, IfSome, None};
 ghost use Rattle.wire_names.specs.rr.domain.DomainName.{IsWire, cut};
-ghost use Rattle.wire_writing.specs.serialize.writing.Noted.{Notes, IsPlace, first_place, IsNotedAt};
-ghost use Rattle.wire_writing.specs.serialize.writing.NameTable.{pairs, bucket, AreApart, AreLinked};
-ghost use Rattle.wire_writing.specs.serialize.writing.QuestionNames.{ends_from};
+ghost use Rattle.wire_writing.specs.representation.Noted.{Notes, IsPlace, first_place, IsNotedAt};
+ghost use Rattle.wire_writing.specs.representation.NameTable.{pairs, bucket, AreApart, AreLinked};
+ghost use Rattle.wire_writing.specs.representation.QuestionNames.{ends_from};
 
 use crate::serialize::writing::note_list::{LIST_LEN, NoteList};
 use crate::serialize::writing::question_name::{QUESTION_PLACE, QuestionName};
@@ -18,7 +18,8 @@ use wire_names::values::same_bytes::are_same;
 pub(crate) struct Note<'n> {
     pub(crate) suffix: &'n [u8],
     pub(crate) place: u16,
-    // Where the notes are linked, how many of them end with the one before it in its bucket, or 0 where it is the first there.
+    // Where the notes are linked, how many of them end with the one before it in its bucket, or 0 where it is the first
+    // there.
     pub(crate) before: u16,
 }
 
@@ -39,13 +40,16 @@ const BUCKETS: usize = 1024;
 pub struct CompressionTable<'n> {
     // The notes of the question's name, of which none is made.
     asked: QuestionName<'n>,
-    // The notes behind those while they are searched one by one. They lie in the table itself, so that a small reply takes no memory for them.
+    // The notes behind those while they are searched one by one. They lie in the table itself, so that a small reply
+    // takes no memory for them.
     first: NoteList<'n>,
     // The notes once they are linked, in memory.
     notes: Vec<Note<'n>>,
-    // For each bucket, how many notes end with its last one, or 0 where it has none. Empty while the notes are searched one by one.
+    // For each bucket, how many notes end with its last one, or 0 where it has none. Empty while the notes are searched
+    // one by one.
     lasts: Vec<u16>,
-    // The owner name that was written last: the records of an RRset have the same, and names in their data often end in it.
+    // The owner name that was written last: the records of an RRset have the same, and names in their data often end in
+    // it.
     last_owner: Option<KeptName<'n>>,
     // The end of a name that a search found last, as the name of the zone, in which most names of a message end.
     last_target: Option<KeptName<'n>>,
@@ -55,12 +59,12 @@ pub struct CompressionTable<'n> {
 }
 
 impl<'n> Model for CompressionTable<'n> {
-    ghost use Rattle.wire_writing.specs.serialize.writing.Noted.{Notes};
+    ghost use Rattle.wire_writing.specs.representation.Noted.{Notes};
     ghost use Rattle.std.specs.Prelude.{◌++◌};
 
     ghost Value = { Notes };
 
-    ghost use Rattle.wire_writing.specs.serialize.writing.NameTable.{pairs, IsTable, IsStored};
+    ghost use Rattle.wire_writing.specs.representation.NameTable.{pairs, IsTable, IsStored};
 
     ghost view = { λ table. table.asked ++ pairs (table.first ++ table.notes.items) };
 
@@ -69,7 +73,7 @@ impl<'n> Model for CompressionTable<'n> {
         × IsStored table.first table.notes.items table.lasts.items };
 }
 
-// The bucket of a suffix.
+/// The bucket of a suffix.
 fn bucket_of(suffix: &[u8]) -> usize
     ensures is { result ≡ bucket suffix.now }
     ensures below { result < 1024 }
@@ -79,7 +83,7 @@ fn bucket_of(suffix: &[u8]) -> usize
     (hasher.finish() % BUCKETS as u64) as usize
 }
 
-// The same where it may be known.
+/// The bucket of a suffix, which may be known.
 #[inline(always)]
 fn known_bucket(in_bucket: Option<usize>, suffix: &[u8]) -> usize
     requires { IfSome in_bucket (λ b. b ≡ bucket suffix.now) }
@@ -92,7 +96,7 @@ fn known_bucket(in_bucket: Option<usize>, suffix: &[u8]) -> usize
     }
 }
 
-// The first place of the suffix among the notes. Those of other lengths, or with other first bytes, cost no call.
+/// The first place of the suffix among the notes. Those of other lengths, or with other first bytes, cost no call.
 #[inline(never)]
 fn find_in(notes: &[Note<'_>], suffix: &[u8]) -> Option<u16>
     ensures { result ≡ first_place suffix.now (pairs notes.now) }
@@ -105,7 +109,7 @@ fn find_in(notes: &[Note<'_>], suffix: &[u8]) -> Option<u16>
     None
 }
 
-// The same among the notes of one bucket, from its last one on.
+/// The first place of the suffix among the notes of one bucket, from its last one on.
 #[inline(always)]
 fn find_linked(notes: &[Note<'_>], lasts: &[u16], in_bucket: usize, suffix: &[u8]) -> Option<u16>
     requires linked { AreLinked notes.now lasts.now }
@@ -128,7 +132,7 @@ fn find_linked(notes: &[Note<'_>], lasts: &[u16], in_bucket: usize, suffix: &[u8
     None
 }
 
-// Puts a note behind the others, and makes it the last one of its bucket.
+/// Puts a note behind the others, and makes it the last one of its bucket.
 #[inline(always)]
 fn push_linked<'n>(
     notes: &mut Vec<Note<'n>>,
@@ -157,7 +161,7 @@ fn push_linked<'n>(
     Ok(())
 }
 
-// The same notes, linked in buckets of which none had any, with memory for as many as are expected.
+/// These notes, linked in buckets of which none had any, with memory for as many as are expected.
 fn link<'n>(
     alloc: Global,
     expected: usize,
@@ -181,7 +185,7 @@ fn link<'n>(
     Ok(linked)
 }
 
-// Takes back the notes behind the first so many, the last one first, so that each bucket ends in the one before.
+/// Takes back the notes behind the first so many, the last one first, so that each bucket ends in the one before.
 fn unlink(notes: &mut Vec<Note<'_>>, lasts: &mut [u16], mark: usize)
     requires { AreLinked notes.old.items lasts.old }
     ensures notes { notes.new.items ≡ take mark notes.old.items }
@@ -211,8 +215,8 @@ impl<'n> CompressionTable<'n> {
         }
     }
 
-    /// Notes the name of a question, which stands in full behind the header, and each of its ends, where nothing was noted. The whole name is kept. It costs no
-    /// step for an end: what may end as the name does is compared with it.
+    /// Notes the name of a question, which stands in full behind the header, and each of its ends, where nothing was
+    /// noted. The whole name is kept. It costs no step for an end: what may end as the name does is compared with it.
     #[inline(always)]
     pub(crate) fn begin(&mut self, wire: &'n [u8], count: usize)
         requires none { self.old ≡ [] }
@@ -278,7 +282,8 @@ impl<'n> CompressionTable<'n> {
         }
     }
 
-    /// The place of this name where it is the owner name or the target that was kept last, letter case kept. It costs no hash and no search.
+    /// The place of this name where it is the owner name or the target that was kept last, letter case kept. It costs
+    /// no hash and no search.
     #[inline(always)]
     pub(crate) fn known_place(&self, wire: &[u8]) -> Option<u16>
         ensures found { IfSome result (λ place. IsNotedAt self.now wire.now place) }
@@ -297,7 +302,8 @@ impl<'n> CompressionTable<'n> {
         None
     }
 
-    /// Keeps a name that was noted, to be asked for before any search: as the owner name of a record, or as the end of another name.
+    /// Keeps a name that was noted, to be asked for before any search: as the owner name of a record, or as the end of
+    /// another name.
     pub(crate) fn keep(&mut self, is_owner: bool, wire: &'n [u8], place: u16)
         requires { IsNotedAt self.old wire.now place }
         ensures { self.new ≡ self.old }
@@ -310,7 +316,7 @@ impl<'n> CompressionTable<'n> {
         }
     }
 
-    // Notes a suffix among linked notes. They are linked first where they are not.
+    /// Notes a suffix among linked notes. They are linked first where they are not.
     #[inline(never)]
     fn note_linked(
         &mut self,

@@ -5,9 +5,9 @@ ghost use Rattle.std.specs.List.{flat_map, list_any};
 ghost use Rattle.std.specs.Int.{w16, w32, to_be_bytes};
 ghost use Rattle.wire_names.specs.rr.domain.DomainName.{name_len, AreLabels};
 ghost use Rattle.wire_messages.specs.serialize.layout.FieldRanges.{IsInRange};
-ghost use Rattle.wire_writing.specs.serialize.writing.WrittenParts.{rdata_of};
+ghost use Rattle.wire_writing.specs.representation.WrittenParts.{rdata_of};
 ghost use Rattle.wire_messages.specs.serialize.writing.FullForm.{name_octets, tsig_octets, data_octets, HasNames, HasLength};
-ghost use Rattle.wire_writing.specs.serialize.writing.WritingByNotes.{WritesData};
+ghost use Rattle.wire_writing.specs.representation.WritingByNotes.{WritesData};
 ghost use Rattle.wire_messages.specs.rr.RecordData.{character_string, option_octets, soa_numbers, tsig_fields, type_of};
 ghost use Rattle.wire_messages.specs.serialize.writing.RecordSize.{data_len, unwritable_reason, length_fault};
 ghost use Rattle.wire_messages.specs.declared.rr.rdata.RData.TheVariants as rdata_form;
@@ -24,7 +24,7 @@ use wire_names::error::ProtoError;
 use wire_names::rr::domain::name::Name;
 use wire_names::values::octets::Octets;
 
-// The sum of a length and more octets, or `DataTooLong` where it passes a length field of two bytes.
+/// The sum of a length and more octets, or `DataTooLong` where it passes a length field of two bytes.
 fn lengthened(len: usize, more: usize) -> Result<usize, ProtoError>
     ensures { MatchResult result (λ sum. (sum ≡ len + more) × (sum ≤ 65535))
         (λ e. (e ≡ ProtoError.DataTooLong) × (65535 < len + more)) }
@@ -159,7 +159,8 @@ pub(crate) fn full_data_len(rdata: &RData) -> Result<u16, ProtoError>
     }
 }
 
-/// How many bytes data that are so long in full take at least: as many, where no name in them is compressed (RFC 3597 section 4).
+/// How many bytes data that are so long in full take at least: as many, where no name in them is compressed (RFC 3597
+/// section 4).
 pub(crate) fn least_data_len(rdata: &RData, full_len: u16) -> u16
     ensures { result ≤ full_len }
 {
@@ -175,7 +176,7 @@ fn write_u32(bytes: &mut Vec<u8>, number: u32) -> Result<(), AllocError>
     bytes.extend_from_slice(&number.to_be_bytes())
 }
 
-// Octets behind their length of two bytes.
+/// Octets behind their length of two bytes.
 fn write_counted(bytes: &mut Vec<u8>, octets: &Octets) -> Result<(), AllocError>
     requires { length octets.now ≤ 65535 }
     ensures { OnOk result (bytes.new.items ≡ bytes.old.items ++
@@ -185,7 +186,7 @@ fn write_counted(bytes: &mut Vec<u8>, octets: &Octets) -> Result<(), AllocError>
     bytes.extend_from_slice(octets.as_slice())
 }
 
-// Preference and exchange (RFC 1035 section 3.3.9).
+/// Preference and exchange (RFC 1035 section 3.3.9).
 fn write_mx<'n>(
     bytes: &mut Vec<u8>,
     table: &mut CompressionTable<'n>,
@@ -211,14 +212,15 @@ fn write_soa_numbers(bytes: &mut Vec<u8>, soa: &SOA) -> Result<(), AllocError>
     write_u32(bytes, soa.minimum)
 }
 
-// Both names, and the numbers (RFC 1035 section 3.3.13).
+/// Both names, and the numbers (RFC 1035 section 3.3.13).
 fn write_soa<'n>(
     bytes: &mut Vec<u8>,
     table: &mut CompressionTable<'n>,
     soa: &'n SOA,
 ) -> Result<(), AllocError>
     requires { 12 ≤ length bytes.old.items }
-    ensures data { OnOk result (WritesData bytes.old.items bytes.new.items table.old table.new (rdata_form.SOA soa.now)) }
+    ensures data { OnOk result (WritesData bytes.old.items bytes.new.items table.old table.new
+        (rdata_form.SOA soa.now)) }
     ensures in_range { OnOk result (IsInRange (rdata_form.SOA soa.now)) }
 {
     write_compressed_name(bytes, table, &soa.mname)?;
@@ -266,8 +268,8 @@ fn write_signature_data(bytes: &mut Vec<u8>, signature: &TSIG) -> Result<(), All
     write_counted(bytes, &signature.other)
 }
 
-/// Puts the data of a record behind the bytes. Names in the data of the types of RFC 1035 are compressed, and no others (RFC 3597 section 4); the name
-/// of a TSIG's algorithm never is (RFC 8945 section 4.2).
+/// Puts the data of a record behind the bytes. Names in the data of the types of RFC 1035 are compressed, and no others
+/// (RFC 3597 section 4); the name of a TSIG's algorithm never is (RFC 8945 section 4.2).
 pub(crate) fn write_data<'n>(
     bytes: &mut Vec<u8>,
     table: &mut CompressionTable<'n>,

@@ -6,7 +6,7 @@ ghost use Rattle.wire_messages.specs.serialize.writing.ReplyRanges.{IsMetadataIn
 
 use wire_messages::op::header::{Header, MessageType, Metadata};
 
-// The value of a bit where it is set.
+/// The value of a bit where it is set.
 fn flag(is_set: bool, value: u8) -> u8
     ensures number { result ≡ (if is_set then value else 0) }
     ensures small { result ≤ value }
@@ -14,7 +14,7 @@ fn flag(is_set: bool, value: u8) -> u8
     if is_set { value } else { 0 }
 }
 
-// QR, opcode, AA, TC and RD (RFC 1035 section 4.1.1).
+/// QR, opcode, AA, TC and RD (RFC 1035 section 4.1.1).
 fn first_byte(metadata: &Metadata) -> u8
     ensures flags { result ≡ first_flags metadata.now }
     ensures op_code { metadata.now.op_code < 2 ^ 4 }
@@ -26,7 +26,7 @@ fn first_byte(metadata: &Metadata) -> u8
     response + metadata.op_code.value() * 8 + authoritative + truncation + recursion_desired
 }
 
-// RA, AD, CD and the low response code; the unused bit is 0 (RFC 1035 section 4.1.1, RFC 4035 section 3.2).
+/// RA, AD, CD and the low response code; the unused bit is 0 (RFC 1035 section 4.1.1, RFC 4035 section 3.2).
 fn second_byte(metadata: &Metadata) -> u8
     ensures flags { result ≡ second_flags metadata.now }
     ensures response_code { metadata.now.response_code < 2 ^ 12 }

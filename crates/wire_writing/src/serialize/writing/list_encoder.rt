@@ -3,11 +3,11 @@
 ghost use Rattle.std.specs.Prelude.{◌≡◌, ℕ, ◌+◌, ◌<◌, ◌≤◌, ◌∷◌, ◌||◌, [], length, take, List, Bool, OnOk, IfOk, IfSome, None, option_to_list, option_map};
 ghost use Rattle.std.specs.Iterator.{IsFinite};
 ghost use Rattle.std.specs.Option.{option_copied};
-ghost use Rattle.wire_writing.specs.serialize.writing.Endings.{GivesRecords, ListAdds, NotedRun, seen_ending, count_of_one, fault_of, is_cut_by};
+ghost use Rattle.wire_writing.specs.representation.Endings.{GivesRecords, ListAdds, NotedRun, seen_ending, count_of_one, fault_of, is_cut_by};
 ghost use Rattle.wire_messages.specs.serialize.layout.MessageLayout.{tsig_record};
 ghost use Rattle.wire_messages.specs.serialize.writing.Reply.{opt_record};
 ghost use Rattle.wire_messages.specs.serialize.writing.ReplyRanges.{IsEdnsInRange};
-ghost use Rattle.wire_writing.specs.serialize.writing.Noted.{AreNotes};
+ghost use Rattle.wire_writing.specs.representation.Noted.{AreNotes};
 ghost use Rattle.wire_writing.specs.serialize.writing.Writing.{ListWritten, PutsAll};
 ghost use Rattle.wire_messages.specs.declared.rr.rdata.RData.{RData};
 ghost use Rattle.wire_messages.specs.declared.rr.record.Record.{Record};
@@ -59,8 +59,8 @@ pub fn drain<'a, I: Iterator<Item = &'a Record> + Drop>(records: I)
     for _record in records {}
 }
 
-// Takes the memory for so many records at once, as far as they can be written, and tells the table how many names may come: growing step by step copies what
-// was there before. For a few records there is room from the start.
+/// Takes the memory for so many records at once, as far as they can be written, and tells the table how many names may
+/// come: growing step by step copies what was there before. For a few records there is room from the start.
 #[inline(always)]
 fn make_room(
     bytes: &mut Vec<u8>,
@@ -79,7 +79,7 @@ fn make_room(
     bytes.reserve(count.saturating_mul(USUAL_LEN).min(left))
 }
 
-// Puts the first records of a list behind the bytes, up to the one that passes the limit or has no form.
+/// Puts the first records of a list behind the bytes, up to the one that passes the limit or has no form.
 fn write_records<'n, 'a: 'n, I: Iterator<Item = &'a Record> + Drop>(
     bytes: &mut Vec<u8>,
     table: &mut CompressionTable<'n>,
@@ -92,7 +92,8 @@ fn write_records<'n, 'a: 'n, I: Iterator<Item = &'a Record> + Drop>(
     requires fits { length bytes.old.items ≤ limit }
     requires noted { AreNotes bytes.old.items (length bytes.old.items) table.old }
     ensures written { IfOk result (λ run. (all : List (Record RData)) ×
-        GivesRecords I.next_gives records all × ListWritten limit bytes.old.items all bytes.new.items run.count (seen_ending run.ending) ×
+        GivesRecords I.next_gives records all ×
+        ListWritten limit bytes.old.items all bytes.new.items run.count (seen_ending run.ending) ×
         NotedRun limit bytes.old.items table.old (take run.count all) bytes.new.items table.new) }
     ensures header { OnOk result (12 ≤ length bytes.new.items) }
     ensures fits { OnOk result (length bytes.new.items ≤ limit) }
@@ -113,7 +114,7 @@ fn write_records<'n, 'a: 'n, I: Iterator<Item = &'a Record> + Drop>(
     Ok(Run { count, ending })
 }
 
-// Remembers how a list ended, where none before it was stuck.
+/// Remembers how a list ended, where none before it was stuck.
 #[inline(always)]
 fn close(stops: &mut Stops, ending: Ending)
     requires { stops.old.fault ≡ None }
@@ -127,7 +128,7 @@ fn close(stops: &mut Stops, ending: Ending)
     }
 }
 
-// The same for a list of one record. Answers how many records of it were written.
+/// Remembers how a list of one record ended, and answers how many records of it were written.
 #[inline(always)]
 fn close_one(stops: &mut Stops, ending: Ending) -> u16
     requires { stops.old.fault ≡ None }
@@ -142,7 +143,8 @@ fn close_one(stops: &mut Stops, ending: Ending) -> u16
     }
 }
 
-/// Writes a list of a section behind others, of which one may have been stuck; if so, the list is only taken. Answers how many records were written.
+/// Writes a list of a section behind others, of which one may have been stuck; if so, the list is only taken. Answers
+/// how many records were written.
 #[inline(always)]
 pub fn write_list<'n, 'a: 'n, I: Iterator<Item = &'a Record> + Drop>(
     bytes: &mut Vec<u8>,
@@ -157,7 +159,9 @@ pub fn write_list<'n, 'a: 'n, I: Iterator<Item = &'a Record> + Drop>(
     requires fits { length bytes.old.items ≤ limit }
     requires noted { AreNotes bytes.old.items (length bytes.old.items) table.old }
     ensures written { IfOk result (λ count. (all : List (Record RData)) × (is_cut : Bool) ×
-        GivesRecords I.next_gives records all × ListAdds limit stops.old stops.new bytes.old.items all bytes.new.items count is_cut ×
+        GivesRecords I.next_gives records all ×
+        ListAdds limit (record { bytes = bytes.old.items; stops = stops.old }) all
+        (record { bytes = bytes.new.items; stops = stops.new }) count is_cut ×
         NotedRun limit bytes.old.items table.old (take count all) bytes.new.items table.new) }
     ensures header { OnOk result (12 ≤ length bytes.new.items) }
     ensures fits { OnOk result (length bytes.new.items ≤ limit) }
@@ -173,7 +177,7 @@ pub fn write_list<'n, 'a: 'n, I: Iterator<Item = &'a Record> + Drop>(
     Ok(run.count)
 }
 
-// The same for the OPT record. Its owner name is the root.
+/// Writes the OPT record as a list of one record. Its owner name is the root.
 fn write_one_edns(
     bytes: &mut Vec<u8>,
     limit: u16,
@@ -183,7 +187,8 @@ fn write_one_edns(
     requires header { 12 ≤ length bytes.old.items }
     requires fits { length bytes.old.items ≤ limit }
     ensures written { IfOk result (λ count. (is_cut : Bool) ×
-        ListAdds limit stops.old stops.new bytes.old.items (opt_record edns.now ∷ []) bytes.new.items count is_cut ×
+        ListAdds limit (record { bytes = bytes.old.items; stops = stops.old }) (opt_record edns.now ∷ [])
+        (record { bytes = bytes.new.items; stops = stops.new }) count is_cut ×
         PutsAll limit bytes.old.items (take count (opt_record edns.now ∷ [])) bytes.new.items) }
     ensures in_range { OnOk result (stops.new.fault ≡ None → IsEdnsInRange edns.now) }
     ensures header { OnOk result (12 ≤ length bytes.new.items) }
@@ -197,7 +202,7 @@ fn write_one_edns(
     Ok(close_one(stops, ending))
 }
 
-/// The same where there may be one. Where there is none, it costs no call.
+/// Writes the OPT record where there is one. Where there is none, it costs no call.
 #[inline(always)]
 pub fn write_optional_edns(
     bytes: &mut Vec<u8>,
@@ -208,8 +213,11 @@ pub fn write_optional_edns(
     requires header { 12 ≤ length bytes.old.items }
     requires fits { length bytes.old.items ≤ limit }
     ensures written { IfOk result (λ count. (is_cut : Bool) ×
-        ListAdds limit stops.old stops.new bytes.old.items (option_to_list (option_map opt_record (option_copied edns.entry))) bytes.new.items count is_cut ×
-        PutsAll limit bytes.old.items (take count (option_to_list (option_map opt_record (option_copied edns.entry)))) bytes.new.items) }
+        ListAdds limit (record { bytes = bytes.old.items; stops = stops.old })
+        (option_to_list (option_map opt_record (option_copied edns.entry)))
+        (record { bytes = bytes.new.items; stops = stops.new }) count is_cut ×
+        PutsAll limit bytes.old.items (take count (option_to_list (option_map opt_record (option_copied edns.entry))))
+        bytes.new.items) }
     ensures in_range { OnOk result (stops.new.fault ≡ None → IfSome (option_copied edns.entry) IsEdnsInRange) }
     ensures header { OnOk result (12 ≤ length bytes.new.items) }
     ensures fits { OnOk result (length bytes.new.items ≤ limit) }
@@ -221,7 +229,7 @@ pub fn write_optional_edns(
     }
 }
 
-// The same for the TSIG record. Its names are written in full.
+/// Writes the TSIG record as a list of one record. Its names are written in full.
 fn write_one_signature(
     bytes: &mut Vec<u8>,
     limit: u16,
@@ -231,7 +239,8 @@ fn write_one_signature(
     requires header { 12 ≤ length bytes.old.items }
     requires fits { length bytes.old.items ≤ limit }
     ensures written { IfOk result (λ count. (is_cut : Bool) ×
-        ListAdds limit stops.old stops.new bytes.old.items (tsig_record signature.now ∷ []) bytes.new.items count is_cut ×
+        ListAdds limit (record { bytes = bytes.old.items; stops = stops.old }) (tsig_record signature.now ∷ [])
+        (record { bytes = bytes.new.items; stops = stops.new }) count is_cut ×
         PutsAll limit bytes.old.items (take count (tsig_record signature.now ∷ [])) bytes.new.items) }
     ensures header { OnOk result (12 ≤ length bytes.new.items) }
     ensures fits { OnOk result (length bytes.new.items ≤ limit) }
@@ -244,7 +253,7 @@ fn write_one_signature(
     Ok(close_one(stops, ending))
 }
 
-/// The same where there may be one.
+/// Writes the TSIG record where there is one.
 #[inline(always)]
 pub fn write_optional_signature(
     bytes: &mut Vec<u8>,
@@ -255,8 +264,11 @@ pub fn write_optional_signature(
     requires header { 12 ≤ length bytes.old.items }
     requires fits { length bytes.old.items ≤ limit }
     ensures written { IfOk result (λ count. (is_cut : Bool) ×
-        ListAdds limit stops.old stops.new bytes.old.items (option_to_list (option_map tsig_record (option_copied signature.entry))) bytes.new.items count is_cut ×
-        PutsAll limit bytes.old.items (take count (option_to_list (option_map tsig_record (option_copied signature.entry)))) bytes.new.items) }
+        ListAdds limit (record { bytes = bytes.old.items; stops = stops.old })
+        (option_to_list (option_map tsig_record (option_copied signature.entry)))
+        (record { bytes = bytes.new.items; stops = stops.new }) count is_cut ×
+        PutsAll limit bytes.old.items (take count
+        (option_to_list (option_map tsig_record (option_copied signature.entry)))) bytes.new.items) }
     ensures header { OnOk result (12 ≤ length bytes.new.items) }
     ensures fits { OnOk result (length bytes.new.items ≤ limit) }
     ensures counted { IfOk result (λ count. length bytes.old.items + count ≤ length bytes.new.items) }

@@ -2,8 +2,8 @@
 
 ghost use Rattle.std.specs.Prelude.{◌≡◌, ℕ, ◌+◌, ◌<◌, ◌≤◌, ◌/◌, ◌%◌, ◌^◌, ◌++◌, ◌∷◌, ◌≢◌, [], length, take, true, false, OnOk, IfOk, IfSome, None};
 ghost use Rattle.wire_names.specs.rr.domain.DomainName.{IsWire, AreLabels, wire_form};
-ghost use Rattle.wire_writing.specs.serialize.writing.Noted.{WritesLabels, Compresses, first_place};
-ghost use Rattle.wire_writing.specs.serialize.writing.NameTable.{bucket};
+ghost use Rattle.wire_writing.specs.representation.Noted.{WritesLabels, Compresses, first_place};
+ghost use Rattle.wire_writing.specs.representation.NameTable.{bucket};
 
 use crate::serialize::writing::compression_table::CompressionTable;
 use std::alloc::AllocError;
@@ -12,7 +12,7 @@ use wire_names::rr::domain::name::Name;
 // A pointer reaches places below this one: it has 14 bits for the place.
 const POINTER_REACH: usize = 0x4000;
 
-// A pointer to this place.
+/// A pointer to this place.
 #[inline(always)]
 fn write_pointer(bytes: &mut Vec<u8>, place: u16) -> Result<(), AllocError>
     requires { place < 16384 }
@@ -25,8 +25,8 @@ fn write_pointer(bytes: &mut Vec<u8>, place: u16) -> Result<(), AllocError>
     Ok(())
 }
 
-// Puts the first bytes of a wire form behind the bytes. Eight are copied at once where there are as many, which is cheaper than a few, and those that are
-// too many are taken back.
+/// Puts the first bytes of a wire form behind the bytes. Eight are copied at once where there are as many, which is
+/// cheaper than a few, and those that are too many are taken back.
 #[inline(always)]
 fn write_front(bytes: &mut Vec<u8>, wire: &[u8], len: usize) -> Result<(), AllocError>
     requires { len ≤ length wire.now }
@@ -43,7 +43,8 @@ fn write_front(bytes: &mut Vec<u8>, wire: &[u8], len: usize) -> Result<(), Alloc
     bytes.extend_from_slice(&wire[..len])
 }
 
-// Ends a name that is at its end byte, or goes on as one that was written last. Answers whether that is so; else nothing was written.
+/// Ends a name that is at its end byte, or goes on as one that was written last. Answers whether that is so; else
+/// nothing was written.
 #[inline(always)]
 fn write_known(
     bytes: &mut Vec<u8>,
@@ -52,7 +53,8 @@ fn write_known(
 ) -> Result<bool, AllocError>
     requires header { 12 ≤ length bytes.old.items }
     ensures known { IfOk result (λ known. known ≡ true →
-        WritesLabels bytes.old.items bytes.new.items table.now table.now wire.now × Compresses bytes.old.items bytes.new.items table.now table.now wire.now) }
+        WritesLabels bytes.old.items bytes.new.items table.now table.now wire.now ×
+        Compresses bytes.old.items bytes.new.items table.now table.now wire.now) }
     ensures unknown { IfOk result (λ known. known ≡ false → (bytes.new.items ≡ bytes.old.items) × (wire.now ≢ [])) }
 {
     if wire.is_empty() {
@@ -92,8 +94,8 @@ pub(crate) fn note_written<'n>(
     Ok(())
 }
 
-// Puts labels of this wire form, one at least, and their end behind the bytes, and notes what it wrote label by label. An owner name is kept, and else a
-// name that was found.
+/// Puts labels of this wire form, one at least, and their end behind the bytes, and notes what it wrote label by label.
+/// An owner name is kept, and else a name that was found.
 #[cycle(labels)]
 #[inline(always)]
 fn write_new_labels<'n>(
@@ -124,7 +126,8 @@ fn write_new_labels<'n>(
     Ok(())
 }
 
-// The same, for the labels behind others. It is apart so that most names, of which all but the first label was written before, need no call.
+/// Writes the labels of a name that stand behind others. It is apart so that most names, of which all but the first
+/// label was written before, need no call.
 #[cycle(labels)]
 #[inline(never)]
 fn write_labels<'n>(
@@ -149,7 +152,8 @@ pub(crate) fn write_compressed_name<'n>(
     name: &'n Name,
 ) -> Result<(), AllocError>
     requires { 12 ≤ length bytes.old.items }
-    ensures labels { OnOk result (WritesLabels bytes.old.items bytes.new.items table.old table.new (wire_form name.now.labels)) }
+    ensures labels { OnOk result (WritesLabels bytes.old.items bytes.new.items table.old table.new
+        (wire_form name.now.labels)) }
     ensures are { AreLabels name.now.labels }
 {
     let wire = name.as_wire();
@@ -159,15 +163,18 @@ pub(crate) fn write_compressed_name<'n>(
     Ok(())
 }
 
-/// The same for the owner name of a record of a section, which is kept: the next record may have it too, and names in the data may end in it.
+/// Writes the owner name of a record of a section, which is kept: the next record may have it too, and names in
+/// the data may end in it.
 pub(crate) fn write_owner<'n>(
     bytes: &mut Vec<u8>,
     table: &mut CompressionTable<'n>,
     name: &'n Name,
 ) -> Result<(), AllocError>
     requires { 12 ≤ length bytes.old.items }
-    ensures labels { OnOk result (WritesLabels bytes.old.items bytes.new.items table.old table.new (wire_form name.now.labels)) }
-    ensures compresses { OnOk result (Compresses bytes.old.items bytes.new.items table.old table.new (wire_form name.now.labels)) }
+    ensures labels { OnOk result (WritesLabels bytes.old.items bytes.new.items table.old table.new
+        (wire_form name.now.labels)) }
+    ensures compresses { OnOk result
+        (Compresses bytes.old.items bytes.new.items table.old table.new (wire_form name.now.labels)) }
     ensures are { AreLabels name.now.labels }
 {
     let wire = name.as_wire();

@@ -1,9 +1,10 @@
-//! The name of a question as the notes of its ends, of which none is made: what ends as it does is found by its bytes (RFC 1035 section 4.1.4).
+//! The name of a question as the notes of its ends, of which none is made: what ends as it does is found by its bytes
+//! (RFC 1035 section 4.1.4).
 
 ghost use Rattle.std.specs.Prelude.{◌≡◌, ℕ, ◌<◌, ◌≤◌, [], length, take, drop};
 ghost use Rattle.wire_names.specs.rr.domain.DomainName.{IsWire, cut};
-ghost use Rattle.wire_writing.specs.serialize.writing.Noted.{first_place};
-ghost use Rattle.wire_writing.specs.serialize.writing.QuestionNames.{ends_from};
+ghost use Rattle.wire_writing.specs.representation.Noted.{first_place};
+ghost use Rattle.wire_writing.specs.representation.QuestionNames.{ends_from};
 
 use std::marker::Model;
 use wire_names::values::same_bytes::are_same;
@@ -23,21 +24,21 @@ pub(crate) struct QuestionName<'n> {
 }
 
 impl<'n> Model for QuestionName<'n> {
-    ghost use Rattle.wire_writing.specs.serialize.writing.Noted.{Notes};
+    ghost use Rattle.wire_writing.specs.representation.Noted.{Notes};
 
     ghost Value = { Notes };
 
     ghost use Rattle.std.specs.Prelude.{◌≤◌, length, take};
     ghost use Rattle.wire_names.specs.rr.domain.DomainName.{IsWire, cut};
-    ghost use Rattle.wire_writing.specs.serialize.writing.QuestionNames.{ends_from};
+    ghost use Rattle.wire_writing.specs.representation.QuestionNames.{ends_from};
 
     ghost view = { λ name. take name.count (ends_from 12 (cut name.wire.now)) };
 
     ghost invariant = { λ name. IsWire name.wire.now × (name.count ≤ length (cut name.wire.now)) };
 }
 
-// The place of the end of the name that begins there, if it begins with one of the first so many labels. The labels before it are gone through by their
-// lengths.
+/// The place of the end of the name that begins there, if it begins with one of the first so many labels. The labels
+/// before it are gone through by their lengths.
 #[inline(never)]
 fn place_of_end(wire: &[u8], count: usize, start: usize) -> Option<u16>
     requires wire { IsWire wire.now }

@@ -1,9 +1,10 @@
-//! The name of a question whose bytes are repeated, noted where it stands in full behind the header (RFC 1035 sections 4.1.2 and 4.1.4).
+//! The name of a question whose bytes are repeated, noted where it stands in full behind the header (RFC 1035 sections
+//! 4.1.2 and 4.1.4).
 
 ghost use Rattle.std.specs.Prelude.{◌≡◌, ℕ, ◌+◌, ◌++◌, [], length, replicate, IfSome};
 ghost use Rattle.wire_names.specs.rr.domain.DomainName.{IsWire, cut};
-ghost use Rattle.wire_writing.specs.serialize.writing.Noted.{AreNotes};
-ghost use Rattle.wire_writing.specs.serialize.writing.QuestionNames.{StandsInFull};
+ghost use Rattle.wire_writing.specs.representation.Noted.{AreNotes};
+ghost use Rattle.wire_writing.specs.representation.QuestionNames.{StandsInFull};
 
 use crate::serialize::writing::compression_table::CompressionTable;
 
@@ -17,7 +18,7 @@ struct FullName<'n> {
     count: usize,
 }
 
-// The name at the front, if it stands there in full.
+/// The name at the front, if it stands there in full.
 fn full_name(question: &[u8]) -> Option<FullName<'_>>
     ensures { IfSome result (λ name. StandsInFull question.now name.wire.now name.count) }
 {
@@ -40,8 +41,8 @@ fn full_name(question: &[u8]) -> Option<FullName<'_>>
     None
 }
 
-/// Notes the name of the first question, where it stands in full, and each of its ends. The whole name is kept, since most replies begin with a record of it.
-/// It takes no memory, and a step for each label.
+/// Notes the name of the first question, where it stands in full, and each of its ends. The whole name is kept, since
+/// most replies begin with a record of it. It takes no memory, and a step for each label.
 #[inline(always)]
 pub fn note_question<'n>(table: &mut CompressionTable<'n>, question: &'n [u8])
     requires { table.old ≡ [] }

@@ -2,15 +2,15 @@
 
 ghost use Rattle.std.specs.Prelude.{◌≡◌, ℕ, ◌+◌, ◌*◌, ◌^◌, ◌<◌, ◌≤◌, ◌++◌, ◌↔◌, length, take, drop, OnOk, IfOk, IsTrue, None};
 ghost use Rattle.std.specs.Int.{w16, w32, to_be_bytes};
-ghost use Rattle.wire_writing.specs.serialize.writing.Endings.{RecordEnds, NotesFollow};
+ghost use Rattle.wire_writing.specs.representation.Endings.{RecordEnds, NotesFollow};
 ghost use Rattle.wire_messages.specs.serialize.writing.FullForm.{HasNames};
-ghost use Rattle.wire_writing.specs.serialize.writing.Noted.{AreNotes};
+ghost use Rattle.wire_writing.specs.representation.Noted.{AreNotes};
 ghost use Rattle.wire_messages.specs.serialize.writing.RecordSize.{data_len, unwritable_reason};
-ghost use Rattle.wire_writing.specs.serialize.writing.WritingByNotes.{WritesRecord};
+ghost use Rattle.wire_writing.specs.representation.WritingByNotes.{WritesRecord};
 ghost use Rattle.wire_messages.specs.serialize.layout.MessageLayout.{tsig_record};
 ghost use Rattle.wire_messages.specs.serialize.writing.Reply.{opt_record};
 ghost use Rattle.wire_messages.specs.serialize.writing.ReplyRanges.{IsEdnsInRange};
-ghost use Rattle.wire_writing.specs.serialize.writing.WrittenParts.{record_of};
+ghost use Rattle.wire_writing.specs.representation.WrittenParts.{record_of};
 ghost use Rattle.wire_messages.specs.declared.rr.record.Proof.{Proof};
 
 use crate::serialize::writing::compression_table::CompressionTable;
@@ -44,7 +44,7 @@ struct FixedFields {
     len: u16,
 }
 
-// Whether a record of these lengths fits behind this place.
+/// Whether a record of these lengths fits behind this place.
 fn has_room(place: usize, limit: u16, name_len: u16, data_len: u16) -> bool
     requires { place ≤ limit }
     ensures { IsTrue result ↔ (place + (name_len + 10 + data_len) ≤ limit) }
@@ -64,7 +64,8 @@ struct Parts<'r> {
 
 fn write_fixed(bytes: &mut Vec<u8>, fields: FixedFields) -> Result<(), AllocError>
     ensures bytes { OnOk result (bytes.new.items ≡ bytes.old.items ++
-        (to_be_bytes w16 fields.record_type ++ to_be_bytes w16 fields.dns_class ++ to_be_bytes w32 fields.ttl ++ to_be_bytes w16 fields.len)) }
+        (to_be_bytes w16 fields.record_type ++ to_be_bytes w16 fields.dns_class ++ to_be_bytes w32 fields.ttl ++
+        to_be_bytes w16 fields.len)) }
     ensures ttl { fields.ttl < 2 ^ 32 }
 {
     let [type_high, type_low] = fields.record_type.to_be_bytes();
@@ -76,11 +77,13 @@ fn write_fixed(bytes: &mut Vec<u8>, fields: FixedFields) -> Result<(), AllocErro
     ])
 }
 
-// Puts the record of these parts behind the bytes, with its names in full, where it fits the limit; else the bytes stay.
+/// Puts the record of these parts behind the bytes, with its names in full, where it fits the limit; else the bytes
+/// stay.
 fn write_parts(bytes: &mut Vec<u8>, limit: u16, parts: Parts<'_>) -> Result<Ending, AllocError>
     requires header { 12 ≤ length bytes.old.items }
     requires fits { length bytes.old.items ≤ limit }
-    ensures { IfOk result (λ ending. (proof : Proof) → RecordEnds limit bytes.old.items (record_of parts.entry proof) bytes.new.items ending) }
+    ensures { IfOk result (λ ending. (proof : Proof) →
+        RecordEnds limit bytes.old.items (record_of parts.entry proof) bytes.new.items ending) }
 {
     let len = match parts.data.full_len() {
         Ok(len) => len,
@@ -103,7 +106,7 @@ fn write_parts(bytes: &mut Vec<u8>, limit: u16, parts: Parts<'_>) -> Result<Endi
     Ok(Ending::Whole)
 }
 
-// Puts a length in the place of two bytes.
+/// Puts a length in the place of two bytes.
 fn put_len(bytes: &mut [u8], place: usize, len: u16)
     requires { place + 2 ≤ length bytes.old }
     ensures { bytes.new ≡ take place bytes.old ++ (to_be_bytes w16 len ++ drop (place + 2) bytes.old) }
@@ -111,16 +114,17 @@ fn put_len(bytes: &mut [u8], place: usize, len: u16)
     bytes[place..place + 2].copy_from_slice(&len.to_be_bytes());
 }
 
-// The same in a vector.
+/// Puts the length of data in its two octets in a vector.
 fn put_data_len(bytes: &mut Vec<u8>, place: usize, len: u16)
     requires { place + 2 ≤ length bytes.old.items }
-    ensures { bytes.new.items ≡ take place bytes.old.items ++ (to_be_bytes w16 len ++ drop (place + 2) bytes.old.items) }
+    ensures { bytes.new.items ≡ take place bytes.old.items ++
+        (to_be_bytes w16 len ++ drop (place + 2) bytes.old.items) }
 {
     put_len(bytes, place, len);
 }
 
-// Puts a record behind the bytes, whatever its size, with pointers to what the table has, and notes its names there. How long the data are is known
-// behind them.
+/// Puts a record behind the bytes, whatever its size, with pointers to what the table has, and notes its names there.
+/// How long the data are is known behind them.
 fn write_whole_record<'n>(
     bytes: &mut Vec<u8>,
     table: &mut CompressionTable<'n>,
@@ -149,9 +153,11 @@ fn write_whole_record<'n>(
     Ok(())
 }
 
-/// Puts a record behind the bytes where it fits the limit, with pointers to what the table has, and notes its names there.
+/// Puts a record behind the bytes where it fits the limit, with pointers to what the table has, and notes its names
+/// there.
 ///
-/// Where it does not fit, the bytes and the table stay as they were. Where memory is refused, the bytes may end in a part of it.
+/// Where it does not fit, the bytes and the table stay as they were. Where memory is refused, the bytes may end in a
+/// part of it.
 pub(crate) fn write_record<'n>(
     bytes: &mut Vec<u8>,
     table: &mut CompressionTable<'n>,
@@ -162,7 +168,8 @@ pub(crate) fn write_record<'n>(
     requires fits { length bytes.old.items ≤ limit }
     requires noted { AreNotes bytes.old.items (length bytes.old.items) table.old }
     ensures ends { IfOk result (λ ending. RecordEnds limit bytes.old.items «record».now bytes.new.items ending) }
-    ensures notes { IfOk result (λ ending. NotesFollow bytes.old.items «record».now bytes.new.items table.old table.new ending) }
+    ensures notes { IfOk result (λ ending. NotesFollow bytes.old.items «record».now bytes.new.items table.old table.new
+        ending) }
 {
     let len = match full_data_len(&record.rdata) {
         Ok(len) => len,
@@ -187,7 +194,8 @@ pub(crate) fn write_record<'n>(
 pub(crate) fn write_edns(bytes: &mut Vec<u8>, limit: u16, edns: &Edns) -> Result<Ending, AllocError>
     requires header { 12 ≤ length bytes.old.items }
     requires fits { length bytes.old.items ≤ limit }
-    ensures ends { IfOk result (λ ending. RecordEnds limit bytes.old.items (opt_record edns.now) bytes.new.items ending) }
+    ensures ends { IfOk result (λ ending.
+        RecordEnds limit bytes.old.items (opt_record edns.now) bytes.new.items ending) }
     ensures in_range { IsEdnsInRange edns.now }
 {
     let root = Name::root();
@@ -203,7 +211,7 @@ pub(crate) fn write_edns(bytes: &mut Vec<u8>, limit: u16, edns: &Edns) -> Result
     )
 }
 
-/// The same for a TSIG record.
+/// Writes a TSIG record.
 pub(crate) fn write_signature(
     bytes: &mut Vec<u8>,
     limit: u16,
@@ -211,7 +219,8 @@ pub(crate) fn write_signature(
 ) -> Result<Ending, AllocError>
     requires header { 12 ≤ length bytes.old.items }
     requires fits { length bytes.old.items ≤ limit }
-    ensures { IfOk result (λ ending. RecordEnds limit bytes.old.items (tsig_record signature.now) bytes.new.items ending) }
+    ensures { IfOk result (λ ending. RecordEnds limit bytes.old.items (tsig_record signature.now) bytes.new.items
+        ending) }
 {
     write_parts(
         bytes,

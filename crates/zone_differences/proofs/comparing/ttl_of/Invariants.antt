@@ -1,6 +1,6 @@
 -- The record is not among those before.
 use Rattle.std.proofs.Common.{◌≡◌, length}
-use Rattle.hickory_store.specs.Identity.{ttl_at}
+use Rattle.hickory_store.specs.updates.Identity.{ttl_at}
 use Rattle.zone_differences.proofs.comparing.ttl_of.Given as goal
 
 abbrev pub invariant-loop-rest : goal.invariant-loop-rest

@@ -3,8 +3,8 @@ use Rattle.std.proofs.Common.{◌≡◌, ◌∙◌, ◌∷◌, [], ap, rules, sy
 use Rattle.std.specs.Option.{option_copied}
 use Rattle.hickory_base.specs.zone_store.ZoneRecords.{rrset}
 use Rattle.hickory_base.specs.zone_store.ZoneSets.{zone_records}
-use Rattle.hickory_store.proofs.ApexNs.{Records, Resource}
-use Rattle.hickory_store.proofs.NamedSets.{existing_some}
+use Rattle.hickory_store.proofs.lemmas.updates.ApexNs.{Records, Resource}
+use Rattle.hickory_store.proofs.lemmas.updates.NamedSets.{existing_some}
 use Rattle.zone_differences.proofs.Naming.{only_one}
 use Rattle.zone_differences.proofs.names.apex_soa.Goals as goal
 

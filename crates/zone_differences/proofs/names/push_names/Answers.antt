@@ -2,7 +2,7 @@
 use Rattle.std.proofs.Common.{◌≡◌, All, rules, subst, take, true}
 use Rattle.std.proofs.lemmas.List.{take_all}
 use Rattle.std.proofs.lemmas.List.Elements.{All-more, All-weaker}
-use Rattle.hickory_store.proofs.ApexNs.{Records, Resource}
+use Rattle.hickory_store.proofs.lemmas.updates.ApexNs.{Records, Resource}
 use Rattle.zone_differences.specs.Standing.{are_among}
 use Rattle.zone_differences.proofs.names.push_names.Goals as goal
 

@@ -1,7 +1,7 @@
 -- The copy has the zone's sets.
 use Rattle.std.proofs.Common.{◌≡◌, ◌∙◌, ap, subst, sym}
 use Rattle.hickory_base.specs.zone_store.ZoneSets.{IsZone, sets_of}
-use Rattle.hickory_store.specs.UpdatableZone.{UpdatableZone}
+use Rattle.hickory_store.specs.updates.UpdatableZone.{UpdatableZone}
 use Rattle.hickory_server.specs.declared.server.no_keys.NoKeys.{NoKeys}
 use Rattle.durable_updates.proofs.Judging.{same_sets}
 use Rattle.zone_import.proofs.copies.copy_of.Goals as goal

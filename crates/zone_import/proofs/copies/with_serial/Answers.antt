@@ -4,8 +4,8 @@ use Rattle.wire_messages.specs.declared.rr.rdata.RData.{RData}
 use Rattle.wire_messages.specs.declared.rr.record.Record.{Record}
 use Rattle.wire_messages.specs.declared.rr.rr_key.RrKey.{RrKey}
 use Rattle.hickory_base.specs.zone_store.ZoneSets.{zone_records}
-use Rattle.hickory_store.proofs.DataTypes.{one_type}
-use Rattle.hickory_store.specs.Identity.{ttl_at}
+use Rattle.hickory_store.proofs.lemmas.updates.DataTypes.{one_type}
+use Rattle.hickory_store.specs.updates.Identity.{ttl_at}
 use Rattle.durable_updates.proofs.Recalled.{made_same}
 use Rattle.zone_import.specs.Imports.{numbered}
 use Rattle.zone_import.proofs.copies.with_serial.Goals as goal

@@ -2,7 +2,7 @@
 use Rattle.std.proofs.Common.{◌≡◌, ◌++◌, List, length}
 use Rattle.wire_messages.specs.declared.rr.rdata.RData.{RData}
 use Rattle.wire_messages.specs.declared.rr.record.Record.{Record}
-use Rattle.hickory_store.specs.Identity.{SameZone}
+use Rattle.hickory_store.specs.updates.Identity.{SameZone}
 use Rattle.zone_import.proofs.sameness.are_same.Given as goal
 
 abbrev pub invariant-loop-rest : goal.invariant-loop-rest

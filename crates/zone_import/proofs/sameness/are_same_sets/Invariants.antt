@@ -3,7 +3,7 @@ use Rattle.std.proofs.Common.{◌≡◌, ◌++◌, List}
 use Rattle.wire_messages.specs.declared.rr.rdata.RData.{RData}
 use Rattle.wire_messages.specs.declared.rr.record.Record.{Record}
 use Rattle.hickory_base.specs.zone_store.ZoneSets.{IsZone, sets_of, shared_sets, zone_records}
-use Rattle.hickory_store.specs.Identity.{SameZone}
+use Rattle.hickory_store.specs.updates.Identity.{SameZone}
 use Rattle.zone_import.proofs.sameness.are_same_sets.Given as goal
 
 abbrev pub invariant-loop-set : goal.invariant-loop-set

@@ -1,7 +1,7 @@
 -- Each is among the others.
 use Rattle.std.proofs.Common.{◌≡◌, IsTrue, Bool, true, rules}
 use Rattle.std.specs.List.{AllByRecursion}
-use Rattle.hickory_store.specs.Identity.{SameZone}
+use Rattle.hickory_store.specs.updates.Identity.{SameZone}
 use Rattle.zone_import.proofs.SameLists.{Has, of_ok, same_within}
 use Rattle.zone_import.proofs.sameness.is_same_set.Goals as goal
 

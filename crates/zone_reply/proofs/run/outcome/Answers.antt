@@ -1,5 +1,5 @@
 use Rattle.std.proofs.Common.{◌≡◌, ◌∷◌, [], inl, inr, rules}
-use Rattle.hickory_catalog.specs.Server.{server_of}
+use Rattle.hickory_catalog.specs.requests.Server.{server_of}
 use Rattle.zone_reply.proofs.Serving.{fails, one_step}
 use Rattle.zone_reply.proofs.run.outcome.Goals as goal
 

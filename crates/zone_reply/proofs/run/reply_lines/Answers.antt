@@ -1,4 +1,4 @@
-use Rattle.hickory_catalog.specs.Server.{server_of}
+use Rattle.hickory_catalog.specs.requests.Server.{server_of}
 use Rattle.zone_reply.proofs.Serving.{lines_of, refusal_of}
 use Rattle.zone_reply.proofs.run.reply_lines.Goals as goal
 

@@ -2,7 +2,8 @@ use Rattle.std.proofs.Common.{◌≡◌, ◌∙◌, ℕ, ap, length, refl, rules
 use Rattle.std.specs.Prelude.{◌==◌}
 use Rattle.signed_server.specs.declared.service.SignedServer.{SignedServer}
 use Rattle.zone_serve.specs.Groups.{contents}
-use Rattle.zone_serve.specs.Served.{Stays, service_of}
+use Rattle.signed_server.specs.KeyedServers.{keyed_of}
+use Rattle.zone_serve.specs.Served.{Stays}
 use Rattle.zone_serve.proofs.ServedGroups.{some_lines}
 use Rattle.zone_serve.proofs.ServedLines.{so_far_more, so_far_none}
 use Rattle.zone_serve.proofs.Servers.{stays_on, stays_so}
@@ -11,7 +12,7 @@ use Rattle.zone_serve.proofs.groups.serve_groups.Goals as goal
 pub loop-init : goal.loop-init
 loop-init g c = (
   stays_so c.args.server.now,
-  so_far_none (g.O.Holder.begins c.args.holder.now) (g.O.Holder.settles c.args.holder.now) g.T.Watch.tends (service_of g.H.ZoneHandler g.S.ReplySigner.signature_for c.args.server.now)
+  so_far_none (g.O.Holder.begins c.args.holder.now) (g.O.Holder.settles c.args.holder.now) g.T.Watch.tends (keyed_of g.H.ZoneHandler g.S.ReplySigner.signature_for c.args.server.now)
       (g.R.Read.remaining c.args.reader.now) (g.W.Write.contents c.args.writer.now),
 )
 

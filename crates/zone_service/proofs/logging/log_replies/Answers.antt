@@ -1,6 +1,5 @@
 use Rattle.std.proofs.Common.{◌≡◌, ◌∷◌, [], ℕ, List, false, refl, rules}
-use Rattle.std.specs.declared.net.ip_addr.IpAddr.{IpAddr}
-use Rattle.wire_messages.specs.declared.protocol.Protocol.{Protocol}
+use Rattle.hickory_server.specs.server.ServedBy.{Arrival}
 use Rattle.query_lines.specs.QueryLogs.{is_on, left_out}
 use Rattle.query_lines.specs.declared.log.QueryLog.{QueryLog}
 use Rattle.zone_service.specs.Logged.{AreLogged, no_reply, with_first}
@@ -8,13 +7,12 @@ use Rattle.zone_service.proofs.Written.{begins_at}
 use Rattle.zone_service.proofs.logging.log_replies.Goals as goal
 
 -- A log that is off stays as it is.
-off : (log : QueryLog) (now : ℕ) (address : IpAddr) (protocol : Protocol) (message : List ℕ) (replies : List (List ℕ)) → is_on log ≡ false
-    → AreLogged log now address protocol message replies log
-off log now address protocol message [] is = no_reply refl refl
-off log now address protocol message (reply ∷ others) is = with_first reply refl (left_out (rw is refl) (rw is refl))
+off : (log : QueryLog) (came : Arrival) (replies : List (List ℕ)) → is_on log ≡ false → AreLogged log came replies log
+off log came [] is = no_reply refl refl
+off log came (reply ∷ others) is = with_first reply refl (left_out (rw is refl) (rw is refl))
 
 pub returns-then-not-is_on : goal.returns-then-not-is_on
-returns-then-not-is_on c = off c.args.log.now c.args.now _ c.args.protocol c.args.message.now c.args.replies.now (search rules)
+returns-then-not-is_on c = off c.args.log.now _ c.args.replies.now (search rules)
 
 pub returns-in-len1-up : goal.returns-in-len1-up
 returns-in-len1-up c =

@@ -1,6 +1,7 @@
 use Rattle.std.proofs.Common.{None, Option, Some, refl, subst}
 use Rattle.zone_service.specs.Exports.{answered}
-use Rattle.zone_service.specs.Serving.{IsStreamStep, keyed_of}
+use Rattle.signed_server.specs.KeyedServers.{keyed_of}
+use Rattle.zone_service.specs.Serving.{IsStreamStep}
 use Rattle.zone_service.specs.declared.answering.Refusal.{Refusal}
 use Rattle.zone_service.proofs.told.tell_stream.Goals as goal
 
@@ -9,7 +10,7 @@ returns-in-Some-refusal-clause-told g c =
     let answer = c.answer_stream-answer.result in
     let before = c.args.answering.now in
     answered c.in-Some.source (Some c.in-Some-refusal.refusal) c.in-Some.ensures.some
-    (subst (λ (r : Option Refusal). IsStreamStep (keyed_of g.H.ZoneHandler g.S.ReplySigner.signature_for before.server) before c.args.bytes.now c.in-Some.source c.args.now
+    (subst (λ (r : Option Refusal). IsStreamStep (keyed_of g.H.ZoneHandler g.S.ReplySigner.signature_for before.server) before (record { bytes = c.args.bytes.now; source = c.in-Some.source; now = c.args.now })
     (record { consumed = answer.consumed; written = answer.written; refusal = r }) c.answer_stream-answer.new.out c.answer_stream-answer.new.self) c.in-Some-refusal.is c.answer_stream-answer.ensures.step)
     c.number.ensures
 
@@ -18,6 +19,6 @@ returns-in-None-clause-told g c =
     let answer = c.answer_stream-answer.result in
     let before = c.args.answering.now in
     answered c.in-Some.source None c.in-Some.ensures.some
-    (subst (λ (r : Option Refusal). IsStreamStep (keyed_of g.H.ZoneHandler g.S.ReplySigner.signature_for before.server) before c.args.bytes.now c.in-Some.source c.args.now
+    (subst (λ (r : Option Refusal). IsStreamStep (keyed_of g.H.ZoneHandler g.S.ReplySigner.signature_for before.server) before (record { bytes = c.args.bytes.now; source = c.in-Some.source; now = c.args.now })
     (record { consumed = answer.consumed; written = answer.written; refusal = r }) c.answer_stream-answer.new.out c.answer_stream-answer.new.self) c.in-None.is c.answer_stream-answer.ensures.step)
     refl

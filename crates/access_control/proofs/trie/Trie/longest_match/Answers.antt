@@ -1,6 +1,6 @@
 use Rattle.std.proofs.Common.{◌++◌, List, subst}
 use Rattle.access_control.specs.Access.{Network}
-use Rattle.access_control.specs.Tries.{networks_of}
+use Rattle.access_control.specs.representation.Tries.{networks_of}
 use Rattle.access_control.proofs.lemmas.Tries.{IsWalked, at_Some, no_match_here, no_end_here, notes, passes, to_one, to_zero}
 use Rattle.access_control.proofs.trie.Trie.longest_match.Goals as goal
 use Rattle.access_control.proofs.trie.Trie.longest_match.Goals.{then-deref+then-matches, else-deref, else-deref-via-then-deref+else-matches, else-deref-via-else-deref}

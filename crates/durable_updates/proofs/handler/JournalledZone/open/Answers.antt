@@ -1,7 +1,7 @@
 -- What was recovered is done again.
 use Rattle.std.proofs.Common.{IsTrue, List, Vec, ℕ, Ok, refl, subst, sym}
 use Rattle.std.specs.declared.alloc.Global.{Global}
-use Rattle.hickory_store.specs.UpdatableZone.{UpdatableZone}
+use Rattle.hickory_store.specs.updates.UpdatableZone.{UpdatableZone}
 use Rattle.update_journal.specs.JournalState.{JournalState}
 use Rattle.update_journal.specs.Read.{contents}
 use Rattle.durable_updates.specs.Recorded.{IsRecovered}

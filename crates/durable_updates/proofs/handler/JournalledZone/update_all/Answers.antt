@@ -1,8 +1,9 @@
 -- A batch more.
 use Rattle.std.proofs.Common.{IfOk, IsTrue, Vec, subst}
 use Rattle.std.specs.declared.alloc.Global.{Global}
-use Rattle.hickory_store.specs.UpdatableZone.{UpdatableZone}
-use Rattle.durable_updates.specs.Batches.{AnswersBatch, Told}
+use Rattle.hickory_store.specs.updates.UpdatableZone.{UpdatableZone}
+use Rattle.durable_updates.specs.Batches.{AnswersBatch}
+use Rattle.durable_updates.specs.DurableUpdates.{Told}
 use Rattle.durable_updates.proofs.Committed.{in_step, of_the_zone}
 use Rattle.durable_updates.proofs.handler.JournalledZone.update_all.Goals as goal
 

@@ -1,6 +1,6 @@
 use Rattle.std.proofs.Common.{map}
 use Rattle.hickory_wire.specs.serialize.writing.ReplyParts.{RecordLists}
-use Rattle.hickory_base.specs.responses.LenderLists.{lender_list}
+use Rattle.hickory_base.specs.representation.LenderLists.{lender_list}
 use Rattle.hickory_base.proofs.lemmas.ResultMaps.{if_ok_map}
 use Rattle.hickory_base.proofs.responses.response_encoding.encode_parts.Goals as goal
 

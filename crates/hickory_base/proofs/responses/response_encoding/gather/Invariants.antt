@@ -1,5 +1,5 @@
 use Rattle.std.proofs.Common.{◌≡◌}
-use Rattle.hickory_base.specs.responses.LenderLists.{CanLend, lender_list}
+use Rattle.hickory_base.specs.representation.LenderLists.{CanLend, lender_list}
 use Rattle.hickory_base.proofs.responses.response_encoding.gather.Given as goal
 
 abbrev pub invariant-records : goal.invariant-records

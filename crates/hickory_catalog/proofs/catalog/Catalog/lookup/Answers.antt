@@ -1,6 +1,6 @@
 use Rattle.std.proofs.Common.{refl}
-use Rattle.hickory_catalog.proofs.Belonging.{query_belongs}
-use Rattle.hickory_catalog.proofs.QueryReplies.{if_ok_map}
+use Rattle.hickory_catalog.proofs.lemmas.replies.RepliesToRequests.{query_belongs}
+use Rattle.hickory_catalog.proofs.lemmas.queries.QueryReplies.{if_ok_map}
 use Rattle.hickory_catalog.proofs.catalog.Catalog.lookup.Goals as goal
 
 pub returns-clause-replied : goal.returns-clause-replied

@@ -1,5 +1,5 @@
 use Rattle.std.proofs.Common.{◌≡◌, rules}
-use Rattle.hickory_catalog.specs.ReplyEdns.{reply_edns}
+use Rattle.hickory_catalog.specs.replies.ReplyEdns.{reply_edns}
 use Rattle.hickory_catalog.proofs.catalog.Catalog.transfer.Goals as goal
 
 pub returns-clause-replied : goal.returns-clause-replied

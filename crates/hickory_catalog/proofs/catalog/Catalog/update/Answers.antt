@@ -1,6 +1,6 @@
 use Rattle.std.proofs.Common.{refl}
-use Rattle.hickory_catalog.proofs.Belonging.{update_belongs}
-use Rattle.hickory_catalog.proofs.QueryReplies.{if_ok_map}
+use Rattle.hickory_catalog.proofs.lemmas.replies.RepliesToRequests.{update_belongs}
+use Rattle.hickory_catalog.proofs.lemmas.queries.QueryReplies.{if_ok_map}
 use Rattle.hickory_catalog.proofs.catalog.Catalog.update.Goals as goal
 
 pub returns-clause-replied : goal.returns-clause-replied

@@ -1,12 +1,12 @@
 use Rattle.std.proofs.Common.{◌≡◌, [], ◌∷◌, None, Some, rules, refl}
 use Rattle.wire_messages.specs.serialize.writing.Reply.{Reply}
 use Rattle.hickory_base.specs.responses.Responses.{header_of}
-use Rattle.hickory_catalog.specs.Replies.{error_reply}
-use Rattle.hickory_catalog.specs.ReplyEdns.{reply_edns}
-use Rattle.hickory_catalog.specs.Requests.{asks, refused, request_fault, updates}
-use Rattle.hickory_catalog.proofs.Belonging.{all_to_request, query_belongs, refusal_belongs, to_request, update_belongs}
-use Rattle.hickory_catalog.proofs.QueryReplies.{if_ok_map}
-use Rattle.hickory_catalog.proofs.SentInOrder.{sent_alone}
+use Rattle.hickory_catalog.specs.replies.Replies.{error_reply}
+use Rattle.hickory_catalog.specs.replies.ReplyEdns.{reply_edns}
+use Rattle.hickory_catalog.specs.requests.Requests.{asks, refused, request_fault, updates}
+use Rattle.hickory_catalog.proofs.lemmas.replies.RepliesToRequests.{all_to_request, query_belongs, refusal_belongs, to_request, update_belongs}
+use Rattle.hickory_catalog.proofs.lemmas.queries.QueryReplies.{if_ok_map}
+use Rattle.hickory_catalog.proofs.lemmas.replies.SentInOrder.{sent_alone}
 use Rattle.hickory_catalog.proofs.catalog.CatalogRequestHandler.handle_request.Goals as goal
 
 pub returns-in-Some-clause-replied : goal.returns-in-Some-clause-replied

@@ -1,5 +1,5 @@
 use Rattle.std.proofs.Common.{Vec, Global}
-use Rattle.hickory_catalog.proofs.Lookups.{has_zone}
+use Rattle.hickory_catalog.proofs.lemmas.zones.Lookups.{has_zone}
 use Rattle.hickory_catalog.proofs.zones.Zones.contains.Goals as goal
 
 pub returns : goal.returns

@@ -1,8 +1,8 @@
 use Rattle.std.proofs.Common.{◌≡◌, true, false, Vec, Global, rules}
-use Rattle.hickory_catalog.proofs.Between.{encloses_up_to}
-use Rattle.hickory_catalog.proofs.LastUpTo.{last_of_all}
-use Rattle.hickory_catalog.proofs.Lookups.{lookup_lent, in_order}
-use Rattle.hickory_catalog.proofs.Nearest.{looked_up, itself, all_shorter, reached}
+use Rattle.hickory_catalog.proofs.lemmas.zones.EnclosedBetween.{encloses_up_to}
+use Rattle.hickory_catalog.proofs.lemmas.zones.LastUpTo.{last_of_all}
+use Rattle.hickory_catalog.proofs.lemmas.zones.Lookups.{lookup_lent, in_order}
+use Rattle.hickory_catalog.proofs.lemmas.zones.Nearest.{looked_up, itself, all_shorter, reached}
 use Rattle.hickory_catalog.proofs.zones.Zones.find.Goals as goal
 
 pub returns-then-not-is_fqdn-clause-found : goal.returns-then-not-is_fqdn-clause-found

@@ -1,6 +1,6 @@
 use Rattle.std.proofs.Common.{◌≡◌, false, sym, ◌∙◌}
 use Rattle.std.proofs.lemmas.Bool.{false≢true}
-use Rattle.hickory_catalog.proofs.Nearest.{cut_above, cut_shorter, reached, none_reached, passed}
+use Rattle.hickory_catalog.proofs.lemmas.zones.Nearest.{cut_above, cut_shorter, reached, none_reached, passed}
 use Rattle.hickory_catalog.proofs.zones.Zones.find_above.Goals as goal
 
 pub returns-in_default : goal.returns-in_default

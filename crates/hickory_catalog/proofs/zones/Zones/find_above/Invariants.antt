@@ -1,5 +1,5 @@
 use Rattle.std.proofs.Common.{length}
-use Rattle.hickory_catalog.proofs.Nearest.{IsAbove, EncloseBoth}
+use Rattle.hickory_catalog.proofs.lemmas.zones.Nearest.{IsAbove, EncloseBoth}
 use Rattle.hickory_catalog.proofs.zones.Zones.find_above.Given as goal
 
 abbrev pub invariant-loop-beside : goal.invariant-loop-beside

@@ -1,6 +1,6 @@
 use Rattle.std.proofs.Common.{◌≡◌, false, sym, ◌∙◌}
 use Rattle.std.proofs.lemmas.Bool.{false≢true}
-use Rattle.hickory_catalog.proofs.Nearest.{itself, all_shorter, reached, none_reached, passed}
+use Rattle.hickory_catalog.proofs.lemmas.zones.Nearest.{itself, all_shorter, reached, none_reached, passed}
 use Rattle.hickory_catalog.proofs.zones.Zones.find_among.Goals as goal
 
 pub returns-in_default-clause-found : goal.returns-in_default-clause-found

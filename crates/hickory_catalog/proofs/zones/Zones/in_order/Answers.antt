@@ -1,5 +1,5 @@
 use Rattle.std.proofs.Common.{Vec, Global}
-use Rattle.hickory_catalog.proofs.Lookups.{in_order}
+use Rattle.hickory_catalog.proofs.lemmas.zones.Lookups.{in_order}
 use Rattle.hickory_catalog.proofs.zones.Zones.in_order.Goals as goal
 
 pub returns : goal.returns

@@ -1,7 +1,7 @@
 use Rattle.std.proofs.Common.{Vec, Global}
 use Rattle.std.specs.Map.Iter.{deref_pair}
-use Rattle.hickory_catalog.proofs.LastUpTo.{last_lent}
-use Rattle.hickory_catalog.proofs.Lookups.{in_order}
+use Rattle.hickory_catalog.proofs.lemmas.zones.LastUpTo.{last_lent}
+use Rattle.hickory_catalog.proofs.lemmas.zones.Lookups.{in_order}
 use Rattle.hickory_catalog.proofs.zones.Zones.last_up_to.Goals as goal
 
 pub returns-clause-last : goal.returns-clause-last

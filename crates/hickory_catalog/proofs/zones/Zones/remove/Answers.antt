@@ -1,5 +1,5 @@
 use Rattle.std.proofs.Common.{Vec, Global}
-use Rattle.hickory_catalog.proofs.Places.{taken_at}
+use Rattle.hickory_catalog.proofs.lemmas.zones.PlacesInOrder.{taken_at}
 use Rattle.hickory_catalog.proofs.zones.Zones.remove.Goals as goal
 
 pub returns : goal.returns

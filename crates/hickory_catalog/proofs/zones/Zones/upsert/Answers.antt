@@ -1,5 +1,5 @@
 use Rattle.std.proofs.Common.{Vec, Global, rules}
-use Rattle.hickory_catalog.proofs.Places.{put_at}
+use Rattle.hickory_catalog.proofs.lemmas.zones.PlacesInOrder.{put_at}
 use Rattle.hickory_catalog.proofs.zones.Zones.upsert.Goals as goal
 use Rattle.hickory_catalog.proofs.zones.Zones.upsert.Goals.{in-Ok, in-Err}
 

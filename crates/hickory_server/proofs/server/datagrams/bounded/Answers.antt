@@ -1,6 +1,6 @@
 use Rattle.std.proofs.Common.{◌≡◌, ◌≤◌, ◌<◌, Result, Ok, Err, IfOk, List, ℕ, length, rules, arith}
-use Rattle.hickory_server.specs.Cut.{IsCut}
-use Rattle.hickory_server.specs.ServedBy.{IsBounded}
+use Rattle.hickory_server.specs.server.Cut.{IsCut}
+use Rattle.hickory_server.specs.server.ServedBy.{IsBounded}
 use Rattle.hickory_server.proofs.server.datagrams.bounded.Goals as goal
 
 shorter : {E : Type 0} (limit : ℕ) (reply : List ℕ) (result : Result (List ℕ) E) → limit < length reply → IfOk result (λ bytes. length bytes ≤ limit) → IfOk result (IsCut limit reply)

@@ -1,6 +1,6 @@
 use Rattle.std.proofs.Common.{◌≡◌, List, ℕ, [], ◌∷◌, ◌++◌, rules, ap, sym, ◌∙◌, append_assoc}
 use Rattle.std.proofs.lemmas.List.Elements.{AllZip-push}
-use Rattle.hickory_server.specs.ServedBy.{IsBounded}
+use Rattle.hickory_server.specs.server.ServedBy.{IsBounded}
 use Rattle.hickory_server.proofs.server.datagrams.bounded_replies.Goals as goal
 
 pub loop-reply-preserved : goal.loop-reply-preserved

@@ -3,7 +3,7 @@ use Rattle.wire_messages.specs.serialize.writing.Reply.{Reply}
 use Rattle.wire_messages.specs.declared.op.header.Header.{Header}
 use Rattle.hickory_wire.specs.serialize.writing.ReplyParts.{RecordLists, ReplyEncoded}
 use Rattle.hickory_base.proofs.lemmas.responses.RecordSlices.{given_by_slice}
-use Rattle.hickory_server.specs.Written.{said}
+use Rattle.hickory_server.specs.server.Written.{said}
 use Rattle.hickory_server.proofs.server.datagrams.encoded.Goals as goal
 
 -- the reply of the lists that were given

@@ -1,6 +1,6 @@
 use Rattle.std.proofs.Common.{◌≡◌, ◌≤◌, ℕ, List, All, length, rules}
 use Rattle.wire_messages.specs.declared.protocol.Protocol.TheVariants.{Udp}
-use Rattle.hickory_server.proofs.Sent.{sent_within}
+use Rattle.hickory_server.proofs.lemmas.server.Sent.{sent_within}
 use Rattle.hickory_server.proofs.server.datagrams.sent.Goals as goal
 
 pub returns-in-Udp : goal.returns-in-Udp

@@ -1,4 +1,4 @@
-use Rattle.hickory_server.proofs.RuleLaws.{alone, no_replies, stay, steps, within}
+use Rattle.hickory_server.proofs.lemmas.server.RuleLaws.{alone, no_replies, stay, steps, within}
 use Rattle.hickory_server.proofs.server.rule_laws.messages_by_rules.Goals as goal
 
 pub returns-clause-steps : goal.returns-clause-steps

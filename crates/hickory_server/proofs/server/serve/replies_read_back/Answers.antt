@@ -1,4 +1,4 @@
-use Rattle.hickory_server.proofs.DecodedOutcomes.{answers_read, one_has_room, steps_read}
+use Rattle.hickory_server.proofs.lemmas.server.DecodedOutcomes.{answers_read, one_has_room, steps_read}
 use Rattle.hickory_server.proofs.server.serve.replies_read_back.Goals as goal
 
 pub returns-clause-answers : goal.returns-clause-answers

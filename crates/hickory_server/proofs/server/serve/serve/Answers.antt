@@ -8,8 +8,8 @@ use Rattle.access_control.specs.Access.{AccessSets, IsAllowed}
 use Rattle.hickory_base.specs.requests.RequestReading.{IsQuestionSection, message_of}
 use Rattle.hickory_base.specs.requests.Requests.{ReceivedRequest}
 use Rattle.hickory_base.specs.responses.EncodingSinks.{EncodedReplies}
-use Rattle.hickory_catalog.specs.Server.{Server}
-use Rattle.hickory_server.specs.Serving.{IsRequestOf, LeavesRequest, LeavesUnserved, handled, unreadable}
+use Rattle.hickory_catalog.specs.requests.Server.{Server}
+use Rattle.hickory_server.specs.server.Serving.{IsRequestOf, LeavesRequest, LeavesUnserved, handled, unreadable}
 use Rattle.hickory_server.specs.declared.server.serve.Incoming.{Incoming}
 use Rattle.hickory_server.specs.declared.server.serve.ServeError.{ServeError}
 use Rattle.hickory_server.specs.declared.server.serve.ServeError.TheVariants.{Memory, MemoryAfterHandling}

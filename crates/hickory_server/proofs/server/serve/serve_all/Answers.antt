@@ -1,9 +1,9 @@
 use Rattle.std.proofs.Common.{◌≡◌, inl, inr, List, [], ◌∷◌, ◌++◌, rules, refl, sym, ap, ◌∙◌, append_assoc, arith}
 use Rattle.std.proofs.lemmas.List.{append-nil, nil_from_length}
-use Rattle.hickory_catalog.specs.Server.{server_of}
-use Rattle.hickory_server.specs.Serving.{none}
+use Rattle.hickory_catalog.specs.requests.Server.{server_of}
+use Rattle.hickory_server.specs.server.Serving.{none}
 use Rattle.hickory_server.specs.declared.server.serve.Incoming.{Incoming}
-use Rattle.hickory_server.proofs.Runs.{leaves_between, others_stay, run_more, step_between}
+use Rattle.hickory_server.proofs.lemmas.server.Runs.{leaves_between, others_stay, run_more, step_between}
 use Rattle.hickory_server.proofs.server.serve.serve_all.Goals as goal
 
 pub loop-message-init : goal.loop-message-init

@@ -1,6 +1,6 @@
 use Rattle.std.proofs.Common.{◌≡◌, ◌++◌}
-use Rattle.hickory_catalog.specs.Server.{server_of}
-use Rattle.hickory_server.specs.Serving.{Run}
+use Rattle.hickory_catalog.specs.requests.Server.{server_of}
+use Rattle.hickory_server.specs.server.Serving.{Run}
 use Rattle.hickory_server.proofs.server.serve.serve_all.Given as goal
 
 -- the messages so far have their outcomes

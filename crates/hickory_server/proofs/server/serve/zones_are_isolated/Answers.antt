@@ -1,5 +1,5 @@
 use Rattle.std.proofs.Common.{refl}
-use Rattle.hickory_server.proofs.Isolation.{isolated, one_beside, run_beside, run_isolated, run_of_all, step_alone, step_stays}
+use Rattle.hickory_server.proofs.lemmas.server.Isolation.{isolated, one_beside, run_beside, run_isolated, run_of_all, step_alone, step_stays}
 use Rattle.hickory_server.proofs.server.serve.zones_are_isolated.Goals as goal
 
 pub returns-clause-step : goal.returns-clause-step

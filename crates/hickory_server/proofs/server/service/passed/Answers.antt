@@ -1,6 +1,6 @@
 use Rattle.std.proofs.Common.{[], inl, arith, rules, IsTrue}
 use Rattle.hickory_base.specs.responses.EncodingSinks.{EncodedReplies}
-use Rattle.hickory_server.specs.ServedBy.{passed}
+use Rattle.hickory_server.specs.server.ServedBy.{passed}
 use Rattle.hickory_server.proofs.server.service.passed.Goals as goal
 
 pub returns-then-are_as_sent-clause-ok : goal.returns-then-are_as_sent-clause-ok

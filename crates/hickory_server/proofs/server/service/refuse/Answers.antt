@@ -1,6 +1,6 @@
 use Rattle.hickory_base.proofs.lemmas.ResultMaps.{if_ok_map}
 use Rattle.std.proofs.Common.{refl}
-use Rattle.hickory_server.specs.ServedBy.{refused}
+use Rattle.hickory_server.specs.server.ServedBy.{refused}
 use Rattle.hickory_server.proofs.server.service.refuse.Goals as goal
 
 pub returns : goal.returns

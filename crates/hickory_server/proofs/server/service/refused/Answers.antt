@@ -1,6 +1,6 @@
 use Rattle.std.proofs.Common.{◌≡◌, [], rules}
 use Rattle.std.specs.Option.{option_copied}
-use Rattle.hickory_server.proofs.Refusals.{one_encoded, refuses_as}
+use Rattle.hickory_server.proofs.lemmas.server.Refusals.{one_encoded, refuses_as}
 use Rattle.hickory_server.proofs.server.service.refused.Goals as goal
 
 pub returns-in-Ok : goal.returns-in-Ok

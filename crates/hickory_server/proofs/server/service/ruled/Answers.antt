@@ -1,5 +1,5 @@
-use Rattle.hickory_catalog.specs.Server.{server_of}
-use Rattle.hickory_server.proofs.Results.{leaves_all}
+use Rattle.hickory_catalog.specs.requests.Server.{server_of}
+use Rattle.hickory_server.proofs.lemmas.server.Results.{leaves_all}
 use Rattle.hickory_server.proofs.server.service.ruled.Goals as goal
 
 pub returns-in-Refuse-clause-err : goal.returns-in-Refuse-clause-err

@@ -1,6 +1,6 @@
 use Rattle.std.proofs.Common.{refl}
 use Rattle.hickory_base.proofs.lemmas.ResultMaps.{if_ok_map}
-use Rattle.hickory_server.specs.ServedBy.{transferred}
+use Rattle.hickory_server.specs.server.ServedBy.{transferred}
 use Rattle.hickory_server.proofs.server.service.transferred.Goals as goal
 
 pub returns : goal.returns

@@ -1,6 +1,6 @@
 use Rattle.std.proofs.Common.{◌≡◌, [], ◌∷◌, rules, refl}
 use Rattle.hickory_base.proofs.lemmas.ResultMaps.{if_ok_map}
-use Rattle.hickory_server.specs.ServedBy.{truncated}
+use Rattle.hickory_server.specs.server.ServedBy.{truncated}
 use Rattle.hickory_server.proofs.server.service.truncate.Goals as goal
 
 pub returns : goal.returns

@@ -2,7 +2,7 @@
 use Rattle.std.proofs.Common.{◌≡◌, refl}
 use Rattle.hickory_store.specs.declared.file.zones.RecordsError.{RecordsError}
 use Rattle.hickory_store.specs.declared.file.zones.RecordsError.TheVariants as records_error
-use Rattle.hickory_server.specs.ZoneOfText.{error_of_records}
+use Rattle.hickory_server.specs.store.ZoneOfText.{error_of_records}
 use Rattle.hickory_server.specs.declared.store.file.ZoneError.TheVariants.{Records}
 use Rattle.hickory_server.proofs.store.file.records_fault.Goals as goal
 

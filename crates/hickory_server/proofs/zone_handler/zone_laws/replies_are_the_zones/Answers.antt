@@ -1,5 +1,5 @@
 use Rattle.std.proofs.Common.{refl}
-use Rattle.hickory_server.proofs.MadeReplies.{made}
+use Rattle.hickory_server.proofs.lemmas.zone_handler.MadeReplies.{made}
 use Rattle.hickory_server.proofs.zone_handler.zone_laws.replies_are_the_zones.Goals as goal
 
 pub returns : goal.returns

@@ -1,5 +1,5 @@
 use Rattle.std.proofs.Common.{refl}
-use Rattle.hickory_server.proofs.MadeReplies.{made_beside}
+use Rattle.hickory_server.proofs.lemmas.zone_handler.MadeReplies.{made_beside}
 use Rattle.hickory_zone.specs.contracts.zone_with_parent.ZoneWithParentZoneHandler.TheImpl.{ghosts}
 use Rattle.hickory_server.proofs.zone_handler.zone_laws.replies_beside_a_parent.Goals as goal
 

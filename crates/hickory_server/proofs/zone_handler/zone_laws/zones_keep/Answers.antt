@@ -1,5 +1,5 @@
-use Rattle.hickory_store.proofs.DataTypes.{one_type}
-use Rattle.hickory_server.proofs.KeptZones.{cnames_kept, kept, ns_kept, soa_kept}
+use Rattle.hickory_store.proofs.lemmas.updates.DataTypes.{one_type}
+use Rattle.hickory_server.proofs.lemmas.zone_handler.KeptZones.{cnames_kept, kept, ns_kept, soa_kept}
 use Rattle.hickory_server.proofs.zone_handler.zone_laws.zones_keep.Goals as goal
 
 pub returns-clause-soa : goal.returns-clause-soa

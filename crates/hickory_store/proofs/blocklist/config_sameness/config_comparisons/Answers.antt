@@ -8,7 +8,7 @@ use Rattle.std.specs.declared.net.ipv4_addr.Ipv4Addr.{Ipv4Addr}
 use Rattle.std.specs.declared.net.ipv6_addr.Ipv6Addr.{Ipv6Addr}
 use Rattle.std.specs.declared.string.String.{String}
 use Rattle.wire_messages.proofs.lemmas.rr.RecordComparing.{both_hold, hold_both, number_from_eq, number_equal, flag_from_eq, flag_equal, octets_from_eq, octets_equal}
-use Rattle.hickory_store.specs.ConfigSameness.{SameConfig}
+use Rattle.hickory_store.specs.blocklist.ConfigSameness.{SameConfig}
 use Rattle.hickory_store.specs.declared.blocklist.config.BlocklistConfig.{BlocklistConfig}
 use Rattle.hickory_store.specs.declared.blocklist.config.BlocklistConsultAction.{BlocklistConsultAction}
 use Rattle.hickory_store.proofs.blocklist.config_sameness.config_comparisons.Goals as goal

@@ -1,5 +1,5 @@
 use Rattle.std.proofs.Common.{lit<}
-use Rattle.hickory_store.proofs.FirstBytes.{commented, uncommented}
+use Rattle.hickory_store.proofs.lemmas.blocklist.FirstBytes.{commented, uncommented}
 use Rattle.hickory_store.proofs.blocklist.lines.entry_of.Goals as goal
 
 pub returns-in-Some : goal.returns-in-Some

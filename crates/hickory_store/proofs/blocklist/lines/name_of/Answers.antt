@@ -1,6 +1,6 @@
 use Rattle.std.proofs.Common.{lit<, ◌∙◌, sym, ap}
 use Rattle.std.specs.Str.{bytes_eq}
-use Rattle.hickory_store.proofs.FirstBytes.{unspecified, bare}
+use Rattle.hickory_store.proofs.lemmas.blocklist.FirstBytes.{unspecified, bare}
 use Rattle.hickory_store.proofs.blocklist.lines.name_of.Goals as goal
 
 pub returns-in-Some : goal.returns-in-Some

@@ -2,9 +2,9 @@ use Rattle.std.proofs.Common.{◌≡◌, inl, inr, Some, sym, ap, ◌∙◌, lit
 use Rattle.wire_names.specs.rr.domain.DomainName.{DomainName}
 use Rattle.wire_names.specs.rr.domain.NameOrder.{lower_name, lower_labels, is_wildcard}
 use Rattle.wire_names.specs.rr.domain.NameText.{IsNameText}
-use Rattle.hickory_store.specs.ListLines.{name_part, name_of}
-use Rattle.hickory_store.proofs.Kept.{full}
-use Rattle.hickory_store.proofs.Listing.{starts_with_star, lists_one, in_entry_form}
+use Rattle.hickory_store.specs.blocklist.ListLines.{name_part, name_of}
+use Rattle.hickory_store.proofs.lemmas.blocklist.KeptNames.{full}
+use Rattle.hickory_store.proofs.lemmas.blocklist.ListedLines.{starts_with_star, lists_one, in_entry_form}
 use Rattle.hickory_store.proofs.blocklist.lines.read_line.Goals as goal
 
 pub returns : goal.returns

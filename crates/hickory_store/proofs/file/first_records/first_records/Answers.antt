@@ -3,9 +3,9 @@ use Rattle.std.proofs.Common.{◌∙◌, ◌∷◌, [], ◌++◌, List, sym, ap,
 use Rattle.std.specs.Vec.Iter.{into_iter_items}
 use Rattle.wire_messages.specs.declared.rr.rdata.RData.{RData}
 use Rattle.wire_messages.specs.declared.rr.record.Record.{Record}
-use Rattle.hickory_store.specs.FirstRecords.{keep_first}
-use Rattle.hickory_store.proofs.FirstRecords.{next_first}
-use Rattle.hickory_store.proofs.SetsOfRecords.{append_one}
+use Rattle.hickory_store.specs.file.FirstRecords.{keep_first}
+use Rattle.hickory_store.proofs.lemmas.file.FirstRecords.{next_first}
+use Rattle.hickory_store.proofs.lemmas.file.SetsOfRecords.{append_one}
 use Rattle.hickory_store.proofs.file.first_records.first_records.Goals as goal
 
 pub loop-q-preserved : goal.loop-q-preserved

@@ -3,7 +3,7 @@ use Rattle.std.proofs.Common.{◌≡◌, ◌++◌, List}
 use Rattle.std.specs.Vec.Iter.{into_iter_items}
 use Rattle.wire_messages.specs.declared.rr.rdata.RData.{RData}
 use Rattle.wire_messages.specs.declared.rr.record.Record.{Record}
-use Rattle.hickory_store.specs.FirstRecords.{Knows, first_records}
+use Rattle.hickory_store.specs.file.FirstRecords.{Knows, first_records}
 use Rattle.hickory_store.proofs.file.first_records.first_records.Given as goal
 
 abbrev pub invariant-loop-q : goal.invariant-loop-q

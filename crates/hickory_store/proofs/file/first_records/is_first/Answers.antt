@@ -3,9 +3,9 @@ use Rattle.std.proofs.Common.{◌≡◌, Bool, cond, not, subst, true}
 use Rattle.std.specs.HashSet.{contains}
 use Rattle.wire_messages.specs.declared.rr.rdata.RData.{RData}
 use Rattle.wire_messages.specs.declared.rr.record.Record.{Record}
-use Rattle.hickory_store.specs.FirstRecords.{digested, same_digested}
+use Rattle.hickory_store.specs.file.FirstRecords.{digested, same_digested}
 use Rattle.hickory_store.specs.declared.file.digests.Digested.{Digested}
-use Rattle.hickory_store.proofs.FirstRecords.{met_more}
+use Rattle.hickory_store.proofs.lemmas.file.FirstRecords.{met_more}
 use Rattle.hickory_store.proofs.file.first_records.is_first.Goals as goal
 
 pub returns : goal.returns

@@ -2,8 +2,8 @@
 use Rattle.std.proofs.Common.{◌∙◌, ◌++◌, ◌∷◌, [], List, subst, sym}
 use Rattle.wire_messages.specs.declared.rr.rdata.RData.{RData}
 use Rattle.wire_messages.specs.declared.rr.record.Record.{Record}
-use Rattle.hickory_store.specs.FirstRecords.{Knows}
-use Rattle.hickory_store.proofs.FirstRecords.{kept_as_before, kept_more}
+use Rattle.hickory_store.specs.file.FirstRecords.{Knows}
+use Rattle.hickory_store.proofs.lemmas.file.FirstRecords.{kept_as_before, kept_more}
 use Rattle.hickory_store.proofs.file.first_records.keep.Goals as goal
 
 pub returns-in_ok-push : goal.returns-in_ok-push

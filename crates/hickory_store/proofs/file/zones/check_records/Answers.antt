@@ -2,7 +2,7 @@
 use Rattle.std.proofs.Common.{◌≡◌, ◌∙◌, ◌-◌, ◌++◌, ◌∷◌, [], List, ap, append_assoc, drop, length, sym, take}
 use Rattle.wire_messages.specs.declared.rr.rdata.RData.{RData}
 use Rattle.wire_messages.specs.declared.rr.record.Record.{Record}
-use Rattle.hickory_store.proofs.RecordZones.{front_of, more_right}
+use Rattle.hickory_store.proofs.lemmas.file.RecordZones.{front_of, more_right}
 use Rattle.hickory_store.proofs.file.zones.check_records.Goals as goal
 
 pub loop-rest-preserved : goal.loop-rest-preserved

@@ -2,7 +2,7 @@
 use Rattle.std.proofs.Common.{◌≡◌, ◌++◌, List, length}
 use Rattle.wire_messages.specs.declared.rr.rdata.RData.{RData}
 use Rattle.wire_messages.specs.declared.rr.record.Record.{Record}
-use Rattle.hickory_store.specs.RecordZones.{AreOfZone}
+use Rattle.hickory_store.specs.file.RecordZones.{AreOfZone}
 use Rattle.hickory_store.proofs.file.zones.check_records.Given as goal
 
 abbrev pub invariant-loop-rest : goal.invariant-loop-rest

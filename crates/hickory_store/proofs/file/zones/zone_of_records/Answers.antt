@@ -7,10 +7,10 @@ use Rattle.wire_messages.specs.declared.rr.record.Record.{Record}
 use Rattle.hickory_base.specs.zone_store.ZoneAnswers.{MemoryZone}
 use Rattle.hickory_base.specs.zone_store.ZoneSets.{sets_of}
 use Rattle.hickory_base.proofs.lemmas.zone_store.ZoneByName.{keys-shared}
-use Rattle.hickory_store.specs.FirstRecords.{first_records}
-use Rattle.hickory_store.specs.RecordZones.{AreOfZone}
-use Rattle.hickory_store.specs.ZoneSets.{HoldsSets}
-use Rattle.hickory_store.proofs.RecordZones.{is_zone, one_soa}
+use Rattle.hickory_store.specs.file.FirstRecords.{first_records}
+use Rattle.hickory_store.specs.file.RecordZones.{AreOfZone}
+use Rattle.hickory_store.specs.representation.ZoneSets.{HoldsSets}
+use Rattle.hickory_store.proofs.lemmas.file.RecordZones.{is_zone, one_soa}
 use Rattle.hickory_store.proofs.file.zones.zone_of_records.Goals as goal
 
 pub new-requires-2 : goal.new-requires-2

@@ -6,7 +6,7 @@ use Rattle.std.specs.Borrow.{Bor}
 use Rattle.std.specs.Iterator.Runs.{SomeRun, EachRunFrom, IsChainRun}
 use Rattle.std.specs.Iterator.Adapters.{chain_steps}
 use Rattle.std.specs.declared.iter.Chain.{Chain}
-use Rattle.wire_writing.specs.serialize.writing.Endings.{Front, GivesRecords, ListFollows, seen_front}
+use Rattle.wire_writing.specs.representation.Endings.{Front, GivesRecords, ListFollows, seen_front}
 use Rattle.wire_writing.specs.serialize.writing.Writing.{ListsWritten}
 use Rattle.wire_writing.specs.serialize.writing.Writing.ListsWritten.{none_left}
 use Rattle.wire_messages.specs.declared.rr.rdata.RData.{RData}

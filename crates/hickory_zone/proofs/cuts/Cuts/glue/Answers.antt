@@ -2,8 +2,8 @@ use Rattle.std.proofs.Common.{◌≡◌, ◌+◌, List, subst, sym, take, ◌∙
 use Rattle.std.proofs.lemmas.List.{take_all}
 use Rattle.hickory_base.specs.zone_store.ZoneSets.{sets_of}
 use Rattle.hickory_zone.proofs.lemmas.zones.Glue.{IsGlueOf, Section, walks_on}
-use Rattle.hickory_zone.specs.KeysBeside.{Entry}
-use Rattle.hickory_zone.specs.TopCuts.{AreGlueOf}
+use Rattle.hickory_zone.specs.representation.KeysBeside.{Entry}
+use Rattle.hickory_zone.specs.representation.TopCuts.{AreGlueOf}
 use Rattle.hickory_zone.specs.Zones.{Records, Zone}
 use Rattle.hickory_zone.proofs.cuts.Cuts.glue.Goals as goal
 

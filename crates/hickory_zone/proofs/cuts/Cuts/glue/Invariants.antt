@@ -1,7 +1,7 @@
 -- The addresses of the servers at the cuts so far are told.
 use Rattle.std.proofs.Common.{take}
 use Rattle.hickory_base.specs.zone_store.ZoneSets.{sets_of}
-use Rattle.hickory_zone.specs.TopCuts.{AreGlueOf}
+use Rattle.hickory_zone.specs.representation.TopCuts.{AreGlueOf}
 use Rattle.hickory_zone.proofs.cuts.Cuts.glue.Given as goal
 
 abbrev pub invariant-loop-servers : goal.invariant-loop-servers

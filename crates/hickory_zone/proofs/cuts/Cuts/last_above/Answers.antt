@@ -2,9 +2,9 @@ use Rattle.std.proofs.Common.{◌≡◌, ◌-◌, false, List, length, refl, ◌
 use Rattle.std.specs.Prelude.{Some, slice_get}
 use Rattle.std.proofs.lemmas.Bool.{false≢true}
 use Rattle.std.proofs.lemmas.Option.{slice_get_read}
-use Rattle.hickory_zone.specs.FoundRecords.{CutAbove}
-use Rattle.hickory_zone.specs.Indexes.{IsPlaceOf}
-use Rattle.hickory_zone.specs.KeysBeside.{Entry}
+use Rattle.hickory_zone.specs.representation.FoundRecords.{CutAbove}
+use Rattle.hickory_zone.specs.representation.Indexes.{IsPlaceOf}
+use Rattle.hickory_zone.specs.representation.KeysBeside.{Entry}
 use Rattle.hickory_zone.proofs.lemmas.zones.Indexed.{word_there}
 use Rattle.hickory_zone.proofs.lemmas.zones.TopCuts.{ends_there, none_above, none_before}
 use Rattle.hickory_zone.proofs.cuts.Cuts.last_above.Goals as goal

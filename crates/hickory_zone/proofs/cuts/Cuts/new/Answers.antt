@@ -2,9 +2,9 @@ use Rattle.std.proofs.Common.{◌≡◌, ◌+◌, ◌++◌, ◌∷◌, List, [],
 use Rattle.std.specs.Prelude.{Some, slice_get}
 use Rattle.std.proofs.lemmas.Option.{slice_get_read}
 use Rattle.hickory_base.specs.zone_store.ZoneSets.{shared_sets}
-use Rattle.hickory_zone.specs.Indexes.{AreWordsOf, IsWordOf}
-use Rattle.hickory_zone.specs.KeysBeside.{Entry}
-use Rattle.hickory_zone.specs.TopCuts.{IsPassedOver, IsPut}
+use Rattle.hickory_zone.specs.representation.Indexes.{AreWordsOf, IsWordOf}
+use Rattle.hickory_zone.specs.representation.KeysBeside.{Entry}
+use Rattle.hickory_zone.specs.representation.TopCuts.{IsPassedOver, IsPut}
 use Rattle.hickory_zone.specs.Zones.{Zone}
 use Rattle.hickory_zone.proofs.lemmas.zones.Indexed.{in_turn, one_more}
 use Rattle.hickory_zone.proofs.lemmas.zones.TopCutsMade.{AreTopSoFar, own_set, owner_at, passed_over, pushed}

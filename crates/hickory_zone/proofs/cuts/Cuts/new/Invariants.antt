@@ -1,7 +1,7 @@
 -- Of the sets so far the topmost cuts are told.
 use Rattle.std.proofs.Common.{drop}
 use Rattle.hickory_base.specs.zone_store.ZoneSets.{shared_sets}
-use Rattle.hickory_zone.specs.Indexes.{AreWordsOf}
+use Rattle.hickory_zone.specs.representation.Indexes.{AreWordsOf}
 use Rattle.hickory_zone.proofs.lemmas.zones.TopCutsMade.{AreTopSoFar}
 use Rattle.hickory_zone.proofs.cuts.Cuts.new.Given as goal
 

@@ -2,13 +2,13 @@ use Rattle.std.proofs.Common.{◌≡◌, List, [], Option, None, Some, get_or, s
 use Rattle.std.specs.Borrow.{Bor}
 use Rattle.std.specs.Option.{option_map}
 use Rattle.hickory_base.specs.zone_store.ZoneSets.{shared_sets}
-use Rattle.hickory_zone.specs.FoundRecords.{CutAbove}
-use Rattle.hickory_zone.specs.Indexes.{IndexedSets}
+use Rattle.hickory_zone.specs.representation.FoundRecords.{CutAbove}
+use Rattle.hickory_zone.specs.representation.Indexes.{IndexedSets}
 use Rattle.hickory_zone.specs.declared.additionals.Source.TheVariants as source
 use Rattle.hickory_zone.specs.declared.cuts.TopCut.{TopCut}
 use Rattle.hickory_zone.specs.Additionals.{AreAdditionals, hosts_of}
-use Rattle.hickory_zone.specs.KeysBeside.{Entry}
-use Rattle.hickory_zone.specs.TopCuts.{AreGlueOf, HasGlue, IsAt}
+use Rattle.hickory_zone.specs.representation.KeysBeside.{Entry}
+use Rattle.hickory_zone.specs.representation.TopCuts.{AreGlueOf, HasGlue, IsAt}
 use Rattle.hickory_zone.specs.Zones.{Records, Zone}
 use Rattle.hickory_zone.proofs.lemmas.zones.Glue.{IsGlueOf, Section, glue_at}
 use Rattle.hickory_zone.proofs.index.Index.cut_above.Goals as goal

@@ -7,9 +7,9 @@ use Rattle.std.proofs.lemmas.List.Elements.{recursion_from_All}
 use Rattle.wire_messages.specs.rr.RrKeys.{key_cmp}
 use Rattle.hickory_base.specs.zone_store.ZoneSets.{AreSetsInOrder, sets_of, shared_sets}
 use Rattle.hickory_base.proofs.lemmas.zone_store.ZoneByName.{keys-shared}
-use Rattle.hickory_zone.specs.Indexes.{AreWordsOf, IsWordOf}
-use Rattle.hickory_zone.specs.KeysBeside.{Entry}
-use Rattle.hickory_zone.specs.TopCuts.{AreCutsOf, AreGlueOf}
+use Rattle.hickory_zone.specs.representation.Indexes.{AreWordsOf, IsWordOf}
+use Rattle.hickory_zone.specs.representation.KeysBeside.{Entry}
+use Rattle.hickory_zone.specs.representation.TopCuts.{AreCutsOf, AreGlueOf}
 use Rattle.wire_names.specs.rr.domain.DomainName.{DomainName}
 use Rattle.hickory_zone.specs.Zones.{IsOwner, Sets}
 use Rattle.hickory_zone.proofs.lemmas.zones.Indexed.{one_more}

@@ -3,7 +3,7 @@ use Rattle.std.proofs.Common.{◌≡◌, ◌++◌}
 use Rattle.std.specs.List.{AllByRecursion}
 use Rattle.std.specs.Map.{keys_of}
 use Rattle.hickory_base.specs.zone_store.ZoneSets.{sets_of, shared_sets}
-use Rattle.hickory_zone.specs.Indexes.{AreWordsOf}
+use Rattle.hickory_zone.specs.representation.Indexes.{AreWordsOf}
 use Rattle.hickory_zone.specs.Zones.{IsOwner}
 use Rattle.hickory_zone.proofs.index.Index.new.Given as goal
 

@@ -1,7 +1,8 @@
 use Rattle.std.proofs.Common.{◌≡◌, ◌≤◌, Option, ℕ, List, [], ◌∷◌, ◌++◌, length, append_assoc, arith}
 use Rattle.std.proofs.lemmas.Result.{err_from_is_err_and}
 use Rattle.wire_messages.specs.rr.RecordData.{character_string}
-use Rattle.record_text.specs.RecordText.IsField.{hash}
+use Rattle.record_text.specs.RecordText.IsField.{in_digits}
+use Rattle.record_text.specs.RecordText.SpellsOctets.{hash}
 use Rattle.wire_names.specs.rr.domain.DomainName.{DomainName}
 use Rattle.text_words.specs.declared.words.Word.{Word}
 use Rattle.record_text.specs.declared.data.field.Field.TheVariants as field
@@ -19,7 +20,7 @@ returns-clause-put c = λ origin. (
   character_string c.in_ok-hash.hash.items,
   joined c.args.data.now.items c.in_ok-hash.hash.items c.push.new.self.items c.extend_from_slice.new.self.items c.len-2.result (rw c.as_slice.ensures.value at c.in_ok-extend_from_slice.ensures.items) c.in_ok-push.ensures.items
       (omega (arith, c.len-2.ensures, c.in_ok-hash.hash.ok.0)),
-  hash c.if-word.false c.in_ok-hash.ensures.spelled (omega (arith, c.if-len-gt255.false, c.len.ensures, c.in_ok-hash.hash.ok.0)),
+  in_digits c.if-word.false (hash c.in_ok-hash.ensures.spelled (omega (arith, c.if-len-gt255.false, c.len.ensures, c.in_ok-hash.hash.ok.0))),
 )
 
 pub returns-in_err-hash-clause-refused : goal.returns-in_err-hash-clause-refused

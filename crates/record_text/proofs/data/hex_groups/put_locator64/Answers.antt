@@ -8,14 +8,15 @@ use Rattle.text_words.specs.declared.error.TextError.TheVariants.{Memory}
 use Rattle.text_words.specs.declared.words.Word.{Word}
 use Rattle.text_words.specs.Spelling.{Puts}
 use Rattle.record_text.specs.RecordText.{HasNone, IsField}
-use Rattle.record_text.specs.RecordText.IsField.{locator64}
+use Rattle.record_text.specs.RecordText.IsField.{in_digits}
+use Rattle.record_text.specs.RecordText.SpellsOctets.{locator64}
 use Rattle.record_text.specs.Groups.{SpellsHexGroups}
 use Rattle.record_text.proofs.NoField.{no_locator64}
 use Rattle.record_text.proofs.data.hex_groups.put_locator64.Goals as goal
 
 as_field : (r : Result (Unit {0}) TextError) (word : Word) (old new : List ℕ) → word.quoted ≡ false → OnOk r (Puts (SpellsHexGroups 58 group.Bits16 4 word.bytes.now) old new)
     → OnOk r ((origin : Option DomainName) → Puts (IsField origin field.Locator64 word) old new)
-as_field (Ok done) word old new unquoted h = λ origin. (h.0, h.1, locator64 unquoted h.2)
+as_field (Ok done) word old new unquoted h = λ origin. (h.0, h.1, in_digits unquoted (locator64 h.2))
 as_field (Err e) word old new unquoted h = h
 
 pub returns-clause-put : goal.returns-clause-put

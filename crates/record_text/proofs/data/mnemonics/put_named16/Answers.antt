@@ -9,12 +9,13 @@ use Rattle.text_words.specs.Spelling.{Puts}
 use Rattle.record_text.specs.declared.data.field.Field.TheVariants as field
 use Rattle.record_text.specs.declared.data.field.Names.{Names}
 use Rattle.record_text.specs.RecordText.{HasNone, IsField, IsNamed}
-use Rattle.record_text.specs.RecordText.IsField.{number16, named16, unnamed16}
+use Rattle.record_text.specs.RecordText.IsField.{number16, named16, unnamed16, in_digits}
 use Rattle.record_text.proofs.NoField.{no_named16}
 use Rattle.record_text.proofs.data.mnemonics.put_named16.Goals as goal
 
 as_named : (names : Names) (origin : Option DomainName) (word : Word) (octets : List ℕ) → IsField origin field.Number16 word octets → IsField origin (field.Named16 names) word octets
 as_named names origin word octets (number16 plain is small) = unnamed16 plain is small
+as_named names origin word octets (in_digits plain spelled) = elim spelled [ ]
 
 by_number : (r : Result (Unit {0}) TextError) (names : Names) (word : Word) (old new : List ℕ) → OnOk r ((o : Option DomainName) → Puts (IsField o field.Number16 word) old new) → OnOk r ((o : Option DomainName) → Puts (IsField o (field.Named16 names) word) old new)
 by_number (Ok done) names word old new h = λ o. ((h o).0, (h o).1, as_named names o word (h o).0 (h o).2)

@@ -8,12 +8,13 @@ use Rattle.text_words.specs.Spelling.{Puts}
 use Rattle.record_text.specs.declared.data.field.Field.TheVariants as field
 use Rattle.record_text.specs.declared.data.field.Names.{Names}
 use Rattle.record_text.specs.RecordText.{HasNone, IsField, IsNamed}
-use Rattle.record_text.specs.RecordText.IsField.{number8, named8, unnamed8}
+use Rattle.record_text.specs.RecordText.IsField.{number8, named8, unnamed8, in_digits}
 use Rattle.record_text.proofs.NoField.{no_named8}
 use Rattle.record_text.proofs.data.mnemonics.put_named8.Goals as goal
 
 as_named : (names : Names) (origin : Option DomainName) (word : Word) (octets : List ℕ) → IsField origin field.Number8 word octets → IsField origin (field.Named8 names) word octets
 as_named names origin word octets (number8 plain is small) = unnamed8 plain is small
+as_named names origin word octets (in_digits plain spelled) = elim spelled [ ]
 
 by_number : (r : Result (Unit {0}) TextError) (names : Names) (word : Word) (old new : List ℕ) → OnOk r ((o : Option DomainName) → Puts (IsField o field.Number8 word) old new) → OnOk r ((o : Option DomainName) → Puts (IsField o (field.Named8 names) word) old new)
 by_number (Ok done) names word old new h = λ o. ((h o).0, (h o).1, as_named names o word (h o).0 (h o).2)

@@ -1,7 +1,8 @@
 -- A signed message is served and its replies signed, or it is refused.
 use Rattle.std.proofs.Common.{◌≡◌, inl, rules, refl, sym, ◌∙◌}
 use Rattle.hickory_base.proofs.lemmas.ResultMaps.{if_ok_map}
-use Rattle.signed_server.specs.ServedWithKeys.{IsRequestOf, arrival, course_of}
+use Rattle.hickory_server.specs.server.ServedBy.{arrival}
+use Rattle.signed_server.specs.ServedWithKeys.{IsRequestOf, course_of}
 use Rattle.signed_server.specs.ServedWithKeys.ServedWithKeys.{bad, good, unreadable}
 use Rattle.signed_server.specs.declared.service.Course.TheVariants.{Sign}
 use Rattle.signed_server.proofs.Courses.{sign_is_left}

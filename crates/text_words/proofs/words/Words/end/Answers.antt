@@ -2,14 +2,14 @@ use Rattle.std.proofs.Common.{◌≡◌, ℕ, List, Option, Some, None, refl, su
 use Rattle.std.proofs.lemmas.Result.{err_from_is_err_and}
 use Rattle.text_words.specs.declared.words.TextKind.{TextKind}
 use Rattle.text_words.specs.declared.words.Word.{Word}
-use Rattle.text_words.specs.Words.{HasNoEnd, IsNext}
+use Rattle.text_words.specs.Words.{HasNoEnd, IsNext, words_left}
 use Rattle.text_words.proofs.OneReading.{same_next}
 use Rattle.text_words.proofs.words.Words.end.Goals as goal
 
 -- where a word stands next, no end does
-no_end : (kind : TextKind) (text : List ℕ) (place depth next next_depth : ℕ) (found : Option Word) (word : Word) → found ≡ Some word → IsNext kind text place depth found next next_depth → HasNoEnd kind text place depth
+no_end : (kind : TextKind) (text : List ℕ) (place depth next next_depth : ℕ) (found : Option Word) (word : Word) → found ≡ Some word → IsNext (words_left kind text place depth) found next next_depth → HasNoEnd kind text place depth
 no_end kind text place depth next next_depth found word is h end there =
-    (same_next kind text place depth (Some word) next next_depth None end 0 (subst (λ (f : Option Word). IsNext kind text place depth f next next_depth) is h) (there, refl)).2
+    (same_next kind text place depth (Some word) next next_depth None end 0 (subst (λ (f : Option Word). IsNext (words_left kind text place depth) f next next_depth) is h) (there, refl)).2
 
 pub returns-in_err-word-clause-none : goal.returns-in_err-word-clause-none
 returns-in_err-word-clause-none c =

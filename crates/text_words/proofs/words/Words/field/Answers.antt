@@ -2,15 +2,15 @@ use Rattle.std.proofs.Common.{◌≡◌, ℕ, List, Option, Some, None, subst}
 use Rattle.std.proofs.lemmas.Result.{err_from_is_err_and}
 use Rattle.text_words.specs.declared.words.TextKind.{TextKind}
 use Rattle.text_words.specs.declared.words.Word.{Word}
-use Rattle.text_words.specs.Words.{HasNoWord, IsNext}
+use Rattle.text_words.specs.Words.{HasNoWord, IsNext, words_left}
 use Rattle.text_words.proofs.OneReading.{same_next}
 use Rattle.text_words.proofs.words.Words.field.Goals.{in-Some, in-None}
 use Rattle.text_words.proofs.words.Words.field.Goals as goal
 
 -- where the end stands next, no word does
-no_word : (kind : TextKind) (text : List ℕ) (place depth next next_depth : ℕ) (found : Option Word) → found ≡ None → IsNext kind text place depth found next next_depth → HasNoWord kind text place depth
+no_word : (kind : TextKind) (text : List ℕ) (place depth next next_depth : ℕ) (found : Option Word) → found ≡ None → IsNext (words_left kind text place depth) found next next_depth → HasNoWord (words_left kind text place depth)
 no_word kind text place depth next next_depth found is h word other other_depth there =
-    (same_next kind text place depth None next next_depth (Some word) other other_depth (subst (λ (f : Option Word). IsNext kind text place depth f next next_depth) is h) there).2
+    (same_next kind text place depth None next next_depth (Some word) other other_depth (subst (λ (f : Option Word). IsNext (words_left kind text place depth) f next next_depth) is h) there).2
 
 pub returns-in_err-word-clause-none : goal.returns-in_err-word-clause-none
 returns-in_err-word-clause-none c =

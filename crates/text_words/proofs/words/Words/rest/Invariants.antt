@@ -9,7 +9,7 @@ invariant-fields l = record {
   kind : l.self.kind ≡ l.initial.self.kind;
   on : l.initial.self.place ≤ l.self.place;
   all : (words : List Word) (end : ℕ) → AreWordsTo l.initial.self.kind l.initial.self.text l.initial.self.place l.initial.self.depth words end → (behind : List Word) × AreWordsTo l.initial.self.kind l.initial.self.text l.self.place l.self.depth behind end;
-  words : AreWords l.initial.self.kind l.initial.self.text l.initial.self.place l.initial.self.depth l.fields.items l.self.place l.self.depth;
+  words : AreWords l.initial.self l.fields.items l.self.place l.self.depth;
 }
 
 abbrev pub decreases-fields : goal.decreases-fields

@@ -1,5 +1,5 @@
 use Rattle.std.proofs.Common.{◌≡◌, true, ◌&&◌, nat_eq}
-use Rattle.wire_names.specs.rr.domain.NameHash.{same_from_eq}
+use Rattle.wire_names.specs.representation.NameHash.{same_from_eq}
 use Rattle.wire_names.specs.rr.domain.NameOrder.{name_eq}
 use Rattle.wire_messages.proofs.lemmas.rr.RecordComparing.{both_hold, hold_both, number_from_eq, number_equal}
 use Rattle.wire_names.proofs.lemmas.rr.domain.SameNames.{eq_from_same}

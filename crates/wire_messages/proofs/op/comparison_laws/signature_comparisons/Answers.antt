@@ -1,5 +1,5 @@
 use Rattle.std.proofs.Common.{◌≡◌, true, ◌&&◌, nat_eq, ap}
-use Rattle.wire_names.specs.rr.domain.NameHash.{same_from_eq}
+use Rattle.wire_names.specs.representation.NameHash.{same_from_eq}
 use Rattle.wire_names.specs.rr.domain.NameOrder.{name_eq}
 use Rattle.wire_messages.specs.rr.RecordSameness.{lower_tsig}
 use Rattle.wire_messages.specs.declared.rr.rdata.RData.TheVariants as rdata

@@ -1,7 +1,7 @@
 use Rattle.std.proofs.Common.{◌≡◌, ℕ, true, ◌&&◌, nat_eq, List, ap}
 use Rattle.std.proofs.lemmas.Bool.{eq-eqb, eqb-true, false≢true}
 use Rattle.wire_names.specs.rr.domain.NameOrder.{name_eq, lower_name}
-use Rattle.wire_names.specs.rr.domain.NameHash.{same_from_eq}
+use Rattle.wire_names.specs.representation.NameHash.{same_from_eq}
 use Rattle.wire_messages.specs.rr.RecordSameness.{lower_mx, lower_soa}
 use Rattle.wire_messages.specs.declared.rr.rdata.MX.{MX}
 use Rattle.wire_messages.specs.declared.rr.rdata.SOA.{SOA}

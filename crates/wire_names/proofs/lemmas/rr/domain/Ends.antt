@@ -13,7 +13,7 @@ use Rattle.wire_names.specs.rr.domain.DomainName.{wire_form, cut, IsLabel, AreLa
 use Rattle.std.specs.Bool.{IsTrue}
 use Rattle.wire_names.specs.rr.domain.NameOrder.{lower_label, lower_labels, label_cmp, Encloses}
 use Rattle.wire_names.proofs.lemmas.rr.domain.WireForm.{name_len-wire_form, is_wire_of, cut_of}
-use Rattle.wire_names.specs.rr.domain.NameHash.{equal_is}
+use Rattle.wire_names.specs.representation.NameHash.{equal_is}
 use Rattle.wire_names.proofs.lemmas.rr.domain.SameNames.{lower-wire, lower-wire_all, wire-same, both_ways, eq_is, eq_from, same_cmp, is_false}
 
 -- these labels are the same, letter case aside

@@ -12,8 +12,8 @@ use Rattle.std.specs.Cmp.Derive.Mapped.{lex_map}
 use Rattle.std.proofs.lemmas.Grind.{common_steps}
 use Rattle.wire_names.specs.rr.domain.DomainName.{label_offset, wire_form}
 use Rattle.wire_names.specs.rr.domain.NameOrder.{Encloses, lower_label, lower_labels, label_cmp}
-use Rattle.wire_names.specs.rr.domain.NameHash.{map-reverse, then-equal}
-use Rattle.wire_names.specs.rr.domain.OrderKey.{escaped, key_of_labels, order_key}
+use Rattle.wire_names.specs.representation.NameHash.{map-reverse, then-equal}
+use Rattle.wire_names.specs.representation.OrderKey.{escaped, key_of_labels, order_key}
 use Rattle.wire_names.proofs.lemmas.rr.domain.LabelOrder.{last}
 use Rattle.wire_names.proofs.lemmas.rr.domain.SameNames.{same_cmp}
 

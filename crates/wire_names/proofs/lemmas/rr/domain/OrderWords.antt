@@ -10,7 +10,7 @@ use Rattle.std.proofs.lemmas.List.{drop_min, drop-replicate, take-replicate, tak
 use Rattle.std.proofs.Math.Seq.{drop-nil, take-length}
 use Rattle.wire_names.specs.rr.domain.DomainName.{DomainName}
 use Rattle.wire_names.specs.rr.domain.NameOrder.{Encloses, label_cmp, lower_labels, name_cmp}
-use Rattle.wire_names.specs.rr.domain.OrderKey.{order_key, order_word, word_behind}
+use Rattle.wire_names.specs.representation.OrderKey.{order_key, order_word, word_behind}
 use Rattle.wire_names.specs.serialize.layout.Bytes.{AreBytes}
 use Rattle.wire_names.proofs.lemmas.rr.domain.KeyWords.{Words, words_at, past}
 use Rattle.wire_names.proofs.lemmas.rr.domain.OrderKeys.{key_of_enclosed, keys_of_names}

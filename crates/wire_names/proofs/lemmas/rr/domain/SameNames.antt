@@ -17,7 +17,7 @@ use Rattle.std.specs.Bool.{IsTrue}
 use Rattle.std.proofs.lemmas.Map.Text.{is_eq-slice_cmp}
 use Rattle.wire_names.specs.rr.domain.DomainName.{DomainName, wire_form, cut, IsLabel, AreLabels}
 use Rattle.wire_names.specs.rr.domain.NameOrder.{lower_labels, lower_name, SameName, lower_label, label_cmp, name_cmp, name_eq}
-use Rattle.wire_names.specs.rr.domain.NameHash.{then-equal, equal_is, map-reverse, labels_exact}
+use Rattle.wire_names.specs.representation.NameHash.{then-equal, equal_is, map-reverse, labels_exact}
 use Rattle.wire_names.proofs.lemmas.rr.domain.WireForm.{cut-wire}
 
 pub lower-wire_all : (ls : List (List ℕ)) → AllByRecursion IsLabel ls → map to_ascii_lowercase (wire_form ls) ≡ wire_form (map lower_label ls)

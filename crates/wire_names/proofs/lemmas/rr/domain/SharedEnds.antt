@@ -5,7 +5,7 @@ use Rattle.std.proofs.lemmas.Bool.{cases_lt}
 use Rattle.std.proofs.lemmas.List.{length-take, length-reverse, take_all, take-append-drop, take-append-le, drop-drop, drop-map, drop_more, get_or_append_left, get_or-append_right, get_or_push, get_or-take, reverse-append, take-take, take_more_same}
 use Rattle.wire_names.specs.rr.domain.DomainName.{DomainName, wire_form}
 use Rattle.wire_names.specs.rr.domain.NameOrder.{Encloses, IsSharedEnd, lower_label, lower_labels}
-use Rattle.wire_names.specs.rr.domain.OrderKey.{IsSharedFront, escaped, key_of_labels, order_key}
+use Rattle.wire_names.specs.representation.OrderKey.{IsSharedFront, escaped, key_of_labels, order_key}
 use Rattle.wire_names.proofs.lemmas.rr.domain.WireForm.{wire-append}
 use Rattle.wire_names.proofs.lemmas.rr.domain.OrderKeys.{key_split, first_last, encloses_by_key, key_of_enclosed}
 

@@ -13,7 +13,11 @@ use Rattle.wire_messages.specs.serialize.reading.NameReading.{name, qualified}
 use Rattle.wire_messages.specs.serialize.reading.Reading.{Read, ◌>>=◌, number, octets}
 use Rattle.wire_messages.specs.rr.RecordData.{type_of}
 use Rattle.wire_reading.specs.serialize.reading.RecordFaults.{EndsItself, DataFormFault, DataFault}
-use Rattle.wire_reading.specs.serialize.reading.RecordFaults.DataFormFault.{ipv4_missing, ipv6_missing, ns_faulty, cname_faulty, ptr_faulty, preference_missing, exchange_faulty, mname_faulty, rname_faulty, numbers_missing, string_missing, string_too_long, algorithm_faulty, mac_size_missing, other_len_missing, other_missing, ends_elsewhere}
+use Rattle.wire_reading.specs.serialize.reading.RecordFaults.DataFormFault.{ipv4_missing, ipv6_missing, ns_faulty, cname_faulty, ptr_faulty, mx_faulty, soa_faulty, txt_faulty, tsig_faulty, ends_elsewhere}
+use Rattle.wire_reading.specs.serialize.reading.RecordFaults.MxFault.{preference_missing, exchange_faulty}
+use Rattle.wire_reading.specs.serialize.reading.RecordFaults.SoaFault.{mname_faulty, rname_faulty, numbers_missing}
+use Rattle.wire_reading.specs.serialize.reading.RecordFaults.TxtFault.{string_missing, string_too_long}
+use Rattle.wire_reading.specs.serialize.reading.RecordFaults.TsigFault.{algorithm_faulty, mac_size_missing, other_len_missing, other_missing}
 use Rattle.wire_reading.specs.serialize.reading.RecordFaults.DataFault.{no_octets, form_faulty}
 use Rattle.wire_messages.specs.serialize.layout.RecordLayout.{OctetsAt, DataRead}
 use Rattle.wire_messages.specs.serialize.reading.RecordReading.{soa, mx, tsig, form, record_data, strings_until, counted_octets, options_of}
@@ -156,8 +160,8 @@ mx_err : (bytes : List ℕ) → AreBytes bytes → (len p : ℕ) (e : DecodeErro
 unfolding mx Gave
 mx_err bytes a len p e within h =
     ended_err bytes (mx (here bytes p)) 15 len p e h
-    (λ f. run_err bytes (number w16) _ 2 p e (DataFormFault bytes p len 15 e) (number_run bytes w16 p within) f (λ lt is. subst (DataFormFault bytes p len 15) (sym is) (preference_missing lt)) (λ preference le g k.
-    name_err bytes _ (p + 2) e (DataFormFault bytes p len 15 e) k (exchange_faulty le) (λ n next at fits bad. absurd cc)))
+    (λ f. run_err bytes (number w16) _ 2 p e (DataFormFault bytes p len 15 e) (number_run bytes w16 p within) f (λ lt is. subst (DataFormFault bytes p len 15) (sym is) (mx_faulty (preference_missing lt))) (λ preference le g k.
+    name_err bytes _ (p + 2) e (DataFormFault bytes p len 15 e) k (λ f. mx_faulty (exchange_faulty le f)) (λ n next at fits bad. absurd cc)))
     (λ x f. let g = mx_in bytes a (here bytes p) x (refl, within) f in (mx_only (here bytes p) x f, g.0, g.1))
 
 -- ---- SOA
@@ -181,10 +185,10 @@ soa_err : (bytes : List ℕ) → AreBytes bytes → (len p : ℕ) (e : DecodeErr
 unfolding soa Gave
 soa_err bytes a len p e within h =
     ended_err bytes (soa (here bytes p)) 6 len p e h
-    (λ f. name_err bytes _ p e (DataFormFault bytes p len 6 e) f mname_faulty (λ m one at_m fits g.
-    name_err bytes _ one e (DataFormFault bytes p len 6 e) g (rname_faulty at_m) (λ r two at_r fits_r k.
+    (λ f. name_err bytes _ p e (DataFormFault bytes p len 6 e) f (λ n. soa_faulty (mname_faulty n)) (λ m one at_m fits g.
+    name_err bytes _ one e (DataFormFault bytes p len 6 e) g (λ n. soa_faulty (rname_faulty at_m n)) (λ r two at_r fits_r k.
     let s = run_short bytes (soa_numbers_of m r) 20 two e (numbers_run bytes m r two fits_r) k in
-    subst (DataFormFault bytes p len 6) (sym s.1) (numbers_missing at_m at_r s.0))))
+    subst (DataFormFault bytes p len 6) (sym s.1) (soa_faulty (numbers_missing at_m at_r s.0)))))
     (λ x f. let g = soa_in bytes a (here bytes p) x (refl, within) f in (soa_only (here bytes p) x f, g.0, g.1))
 
 -- ---- TXT
@@ -196,14 +200,14 @@ text_err bytes len p e within h =
     let G = DataFormFault bytes p len 16 e in
     bind_err (strings_until (p + len) (here bytes p) >>= λ t. Ok (rdata.TXT t.0, t.1)) (ended (p + len)) e G h
     (λ f. bind_err (strings_until (p + len) (here bytes p)) (λ t. Ok (rdata.TXT t.0, t.1)) e G f
-    (λ g. let t = texts_err bytes (p + len - p) (p + len) p e within g in subst (DataFormFault bytes p len 16) (sym t.2) (string_missing t.0.begins t.1)) (λ t g k. absurd cc))
+    (λ g. let t = texts_err bytes (p + len - p) (p + len) p e within g in subst (DataFormFault bytes p len 16) (sym t.2) (txt_faulty (string_missing t.0.begins t.1))) (λ t g k. absurd cc))
     (λ x f g. bind_then (strings_until (p + len) (here bytes p)) (λ t. Ok (rdata.TXT t.0, t.1)) x G f (λ t k l.
     let y : RData × Cursor = (rdata.TXT t.0, t.1) in
     let place : t.1.place ≡ x.1.place = ap (λ (z : RData × Cursor). z.1.place) (ok_is y x l) in
     branch_err (eqb x.1.place (p + len)) (Ok x) (Err IncorrectDataLength) e G g (λ _ bad. absurd cc) (λ test is.
     let same : IncorrectDataLength ≡ e = fail_is IncorrectDataLength e is in
     let past = texts_past bytes (p + len - p) (p + len) p t within (omega arith) (omega arith) k (λ stops. ne_of x.1.place (p + len) test (sym place ∙ stops)) in
-    subst (DataFormFault bytes p len 16) same (string_too_long past.0.begins past.1 past.2))))
+    subst (DataFormFault bytes p len 16) same (txt_faulty (string_too_long past.0.begins past.1 past.2)))))
 
 -- ---- TSIG
 
@@ -211,7 +215,7 @@ text_err bytes len p e within h =
 tsig_err : (bytes : List ℕ) → AreBytes bytes → (len p : ℕ) (e : DecodeError) → p ≤ length bytes → (tsig (here bytes p) >>= ended (p + len)) ≡ Err e → DataFormFault bytes p len 250 e
 unfolding tsig Gave
 tsig_err bytes a len p e within h =
-    ended_err bytes (tsig (here bytes p)) 250 len p e h (tsig_part bytes a len p e)
+    ended_err bytes (tsig (here bytes p)) 250 len p e h (λ f. tsig_faulty (tsig_part bytes a p e f))
     (λ x f. let g = tsig_in bytes a (here bytes p) x (refl, within) f in (tsig_only (here bytes p) x f, g.0, g.1))
 
 -- ---- the types
@@ -268,24 +272,24 @@ err_form {bytes} {kind} {len} {p} {e} within some (ipv6_missing lt) = rw (short_
 err_form {bytes} {kind} {len} {p} {e} within some (ns_faulty f) = rw (fault_name (here bytes p) e f) refl
 err_form {bytes} {kind} {len} {p} {e} within some (cname_faulty f) = rw (fault_name (here bytes p) e f) refl
 err_form {bytes} {kind} {len} {p} {e} within some (ptr_faulty f) = rw (fault_name (here bytes p) e f) refl
-err_form {bytes} {kind} {len} {p} {e} within some (preference_missing lt) = rw (short_is bytes (number w16) 2 p (number_run bytes w16 p (omega arith)) lt) refl
-err_form {bytes} {kind} {len} {p} {e} within some (exchange_faulty le f) =
+err_form {bytes} {kind} {len} {p} {e} within some (mx_faulty (preference_missing lt)) = rw (short_is bytes (number w16) 2 p (number_run bytes w16 p (omega arith)) lt) refl
+err_form {bytes} {kind} {len} {p} {e} within some (mx_faulty (exchange_faulty le f)) =
     let r = run_ok bytes (number w16) 2 p (number_run bytes w16 p (omega arith)) le in
     rw (r.1, fault_name (here bytes (p + 2)) e f) refl
-err_form {bytes} {kind} {len} {p} {e} within some (mname_faulty f) = rw (fault_name (here bytes p) e f) refl
-err_form {bytes} {kind} {len} {p} {e} within some (rname_faulty at f) = let r = name_read at in rw (r.0, fault_name _ e f) refl
-err_form {bytes} {kind} {len} {p} {e} within some (numbers_missing {mname = mname} {rname = rname} {two = two} m r lt) =
+err_form {bytes} {kind} {len} {p} {e} within some (soa_faulty (mname_faulty f)) = rw (fault_name (here bytes p) e f) refl
+err_form {bytes} {kind} {len} {p} {e} within some (soa_faulty (rname_faulty at f)) = let r = name_read at in rw (r.0, fault_name _ e f) refl
+err_form {bytes} {kind} {len} {p} {e} within some (soa_faulty (numbers_missing {mname = mname} {rname = rname} {two = two} m r lt)) =
     let at_m = name_read m in
     let at_r = name_read r in
     let short = short_is bytes (soa_numbers_of (qualified mname.labels) (qualified rname.labels)) 20 two (numbers_run bytes (qualified mname.labels) (qualified rname.labels) two at_r.1) lt in
     rw (at_m.0, at_r.0, short) refl
-err_form {bytes} {kind} {len} {p} {e} within some (string_missing {middle = middle} {n = n} s lt) = rw (next_cut bytes p (p + len) middle n s lt) refl
-err_form {bytes} {kind} {len} {p} {e} within some (string_too_long {middle = middle} {n = n} s le lt) =
+err_form {bytes} {kind} {len} {p} {e} within some (txt_faulty (string_missing {middle = middle} {n = n} s lt)) = rw (next_cut bytes p (p + len) middle n s lt) refl
+err_form {bytes} {kind} {len} {p} {e} within some (txt_faulty (string_too_long {middle = middle} {n = n} s le lt)) =
     rw ((next_past bytes p (p + len) middle n s le lt).1, ne_eqb (middle + 1 + n) (p + len) (λ h. omega arith)) refl
-err_form {bytes} {kind} {len} {p} {e} within some (algorithm_faulty f) = rw (fault_name (here bytes p) e f) refl
-err_form {bytes} {kind} {len} {p} {e} within some (mac_size_missing at lt) = rw (size_short at lt) refl
-err_form {bytes} {kind} {len} {p} {e} within some (other_len_missing at m lt) = rw (len_short at m lt) refl
-err_form {bytes} {kind} {len} {p} {e} within some (other_missing at m o lt) = rw (end_short at m o lt) refl
+err_form {bytes} {kind} {len} {p} {e} within some (tsig_faulty (algorithm_faulty f)) = rw (fault_name (here bytes p) e f) refl
+err_form {bytes} {kind} {len} {p} {e} within some (tsig_faulty (mac_size_missing at lt)) = rw (size_short at lt) refl
+err_form {bytes} {kind} {len} {p} {e} within some (tsig_faulty (other_len_missing at m lt)) = rw (len_short at m lt) refl
+err_form {bytes} {kind} {len} {p} {e} within some (tsig_faulty (other_missing at m o lt)) = rw (end_short at m o lt) refl
 err_form {bytes} {kind} {len} {p} {e} within some (ends_elsewhere {next = next} content own at ne) = rw (own_read bytes p len next content own at, ne_eqb next (p + len) ne) refl
 
 -- data without an octet that fail are those of a TSIG

@@ -7,7 +7,7 @@ use Rattle.wire_names.specs.rr.domain.DomainName.{IsWire, cut, wire_form}
 use Rattle.wire_names.specs.serialize.layout.Bytes.{BytesAt}
 use Rattle.wire_messages.specs.serialize.layout.NameLayout.{LabelsAt}
 use Rattle.wire_messages.specs.serialize.layout.NameLayout.LabelsAt.{at_end, at_label, at_pointer}
-use Rattle.wire_reading.specs.serialize.reading.KnownNames.{IsRest, Holds, AreRests, labels_of}
+use Rattle.wire_reading.specs.representation.KnownNames.{IsRest, Holds, AreRests, labels_of}
 use Rattle.wire_reading.specs.declared.serialize.reading.known_names.Rest.{Rest}
 use Rattle.wire_names.proofs.lemmas.rr.domain.WireForm.{cut_of}
 use Rattle.wire_names.proofs.lemmas.rr.domain.FirstLabel.{first_fits, rest_wire, rest_labels}

@@ -8,7 +8,8 @@ use Rattle.wire_messages.specs.serialize.reading.Cursor.{Cursor}
 use Rattle.wire_messages.specs.serialize.reading.NameReading.{name, qualified}
 use Rattle.wire_messages.specs.serialize.reading.Reading.{Read, ◌>>=◌, Fails, number, octets, rest_of, moved}
 use Rattle.wire_messages.specs.serialize.reading.RecordReading.{resource, record_data, form, options_of}
-use Rattle.wire_reading.specs.serialize.reading.OptReading.{opt_fields, add_edns, says}
+use Rattle.wire_messages.specs.serialize.layout.MessageLayout.{edns_said}
+use Rattle.wire_reading.specs.serialize.reading.OptReading.{opt_fields, add_edns}
 use Rattle.wire_messages.specs.serialize.reading.SectionReading.{Additionals, add_record, additionals_after}
 use Rattle.wire_names.specs.declared.error.DecodeError.{DecodeError}
 use Rattle.wire_messages.specs.declared.op.edns.EdnsOption.{EdnsOption}
@@ -50,14 +51,14 @@ put_edns before e = add_edns before e.0 >>= λ x. read_to x e.1
 -- by the class, the TTL and the octets of the options
 placed_alike : (before : Additionals) (class ttl : ℕ) (o : Read (List ℕ))
     → (((o >>= λ x. read_to (rdata.OPT (options_of x.0)) x.1) >>= λ content. read_to (opt_record class ttl content.0) content.1) >>= put_record before)
-    ≡ ((o >>= λ x. read_to (says class ttl (options_of x.0)) x.1) >>= put_edns before)
+    ≡ ((o >>= λ x. read_to (edns_said class ttl (options_of x.0)) x.1) >>= put_edns before)
 unfolding add_record add_edns
 placed_alike before class ttl (Ok x) = refl
 placed_alike before class ttl (Err e) = refl
 
 from_length : (before : Additionals) (class ttl len : ℕ) (c : Cursor)
     → ((record_data 41 len c >>= λ content. read_to (opt_record class ttl content.0) content.1) >>= put_record before)
-    ≡ ((octets len c >>= λ x. read_to (says class ttl (options_of x.0)) x.1) >>= put_edns before)
+    ≡ ((octets len c >>= λ x. read_to (edns_said class ttl (options_of x.0)) x.1) >>= put_edns before)
 from_length before class ttl len c = rw (opt_data len c) (placed_alike before class ttl (octets len c))
 
 -- a record that begins with the root and the type OPT
@@ -68,15 +69,15 @@ opt_is_next before c owner kind root opt =
     rw (root, opt)
     (both (number w16 kind)
     (λ class. number w32 class.1 >>= λ ttl. number w16 ttl.1 >>= λ len. record_data 41 len.0 len.1 >>= λ content. read_to (opt_record class.0 ttl.0 content.0) content.1)
-    (λ class. number w32 class.1 >>= λ ttl. number w16 ttl.1 >>= λ len. octets len.0 len.1 >>= λ x. read_to (says class.0 ttl.0 (options_of x.0)) x.1)
+    (λ class. number w32 class.1 >>= λ ttl. number w16 ttl.1 >>= λ len. octets len.0 len.1 >>= λ x. read_to (edns_said class.0 ttl.0 (options_of x.0)) x.1)
     (put_record before) (put_edns before) (λ class.
     both (number w32 class.1)
     (λ ttl. number w16 ttl.1 >>= λ len. record_data 41 len.0 len.1 >>= λ content. read_to (opt_record class.0 ttl.0 content.0) content.1)
-    (λ ttl. number w16 ttl.1 >>= λ len. octets len.0 len.1 >>= λ x. read_to (says class.0 ttl.0 (options_of x.0)) x.1)
+    (λ ttl. number w16 ttl.1 >>= λ len. octets len.0 len.1 >>= λ x. read_to (edns_said class.0 ttl.0 (options_of x.0)) x.1)
     (put_record before) (put_edns before) (λ ttl.
     both (number w16 ttl.1)
     (λ len. record_data 41 len.0 len.1 >>= λ content. read_to (opt_record class.0 ttl.0 content.0) content.1)
-    (λ len. octets len.0 len.1 >>= λ x. read_to (says class.0 ttl.0 (options_of x.0)) x.1)
+    (λ len. octets len.0 len.1 >>= λ x. read_to (edns_said class.0 ttl.0 (options_of x.0)) x.1)
     (put_record before) (put_edns before) (λ len. from_length before class.0 ttl.0 len.0 len.1))))
 
 -- ---- the steps of the next record, in both ways
@@ -88,7 +89,7 @@ root_here c h = rw (from_LabelsAt {floor = 0} {bytes = c.bytes} {start = c.place
 
 -- an OPT record at the root that is put is what it says that is put
 pub opt_is_put : (before : Additionals) (r : Record RData) (options : List EdnsOption) (edns : EdnsFields) → r.rdata ≡ rdata.OPT options → eqb (length r.name.labels) 0 ≡ true
-    → edns ≡ says r.dns_class r.ttl options → add_edns before edns ≡ add_record before r
+    → edns ≡ edns_said r.dns_class r.ttl options → add_edns before edns ≡ add_record before r
 unfolding add_record add_edns
 opt_is_put before r options edns e h is = rw (e, h, is) refl
 

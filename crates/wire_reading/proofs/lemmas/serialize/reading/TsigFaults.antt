@@ -7,8 +7,8 @@ use Rattle.wire_messages.specs.serialize.reading.Cursor.{Cursor}
 use Rattle.wire_names.specs.rr.domain.DomainName.{DomainName}
 use Rattle.wire_messages.specs.serialize.layout.NameLayout.{NameAt}
 use Rattle.wire_messages.specs.serialize.reading.Reading.{Read, ◌>>=◌, number, octets}
-use Rattle.wire_reading.specs.serialize.reading.RecordFaults.{NumberAt, DataFormFault}
-use Rattle.wire_reading.specs.serialize.reading.RecordFaults.DataFormFault.{algorithm_faulty, mac_size_missing, other_len_missing, other_missing}
+use Rattle.wire_reading.specs.serialize.reading.RecordFaults.{NumberAt, TsigFault}
+use Rattle.wire_reading.specs.serialize.reading.RecordFaults.TsigFault.{algorithm_faulty, mac_size_missing, other_len_missing, other_missing}
 use Rattle.wire_messages.specs.serialize.reading.RecordReading.{tsig, counted_octets}
 use Rattle.wire_names.specs.declared.error.DecodeError.{DecodeError}
 use Rattle.wire_names.specs.declared.error.DecodeError.TheVariants.{InsufficientBytes}
@@ -51,10 +51,10 @@ at_same : {bytes : List ℕ} {n : ℕ} (p q : ℕ) → p ≡ q → NumberAt byte
 at_same {bytes} {n} p q e at = subst (λ (k : ℕ). NumberAt bytes k n) e at
 
 -- a signature that fails, fails in one of its parts
-pub tsig_part : (bytes : List ℕ) → AreBytes bytes → (len p : ℕ) (e : DecodeError) → tsig (here bytes p) ≡ Err e → DataFormFault bytes p len 250 e
+pub tsig_part : (bytes : List ℕ) → AreBytes bytes → (p : ℕ) (e : DecodeError) → tsig (here bytes p) ≡ Err e → TsigFault bytes p e
 unfolding tsig
-tsig_part bytes a len p e h =
-    let F : DecodeError → Type 0 = DataFormFault bytes p len 250 in
+tsig_part bytes a p e h =
+    let F : DecodeError → Type 0 = TsigFault bytes p in
     let G = F e in
     name_err bytes _ p e G h algorithm_faulty (λ n m at fits g0.
     run_err bytes (number w16) _ 2 m e G (number_run bytes w16 m fits) g0 (λ lt is. subst F (sym is) (mac_size_missing at (omega arith))) (λ high le1 f1 g1.

@@ -7,9 +7,9 @@ use Rattle.wire_names.specs.rr.domain.DomainName.{DomainName, AreLabels, wire_fo
 use Rattle.wire_messages.specs.serialize.layout.NameLayout.{LabelsAt, NameAt}
 use Rattle.wire_messages.specs.serialize.layout.RecordLayout.{OctetsAt, DataAt}
 use Rattle.wire_messages.specs.serialize.writing.FullForm.{data_octets, EndsInFull, HasNames}
-use Rattle.wire_writing.specs.serialize.writing.Noted.{Notes, AreNotes, AddsNotes, KeepsNotes, WritesLabels}
+use Rattle.wire_writing.specs.representation.Noted.{Notes, AreNotes, AddsNotes, KeepsNotes, WritesLabels}
 use Rattle.wire_messages.specs.serialize.writing.RecordSize.{data_len}
-use Rattle.wire_writing.specs.serialize.writing.WritingByNotes.{WritesData}
+use Rattle.wire_writing.specs.representation.WritingByNotes.{WritesData}
 use Rattle.wire_messages.specs.declared.rr.rdata.MX.{MX}
 use Rattle.wire_messages.specs.declared.rr.rdata.SOA.{SOA}
 use Rattle.wire_messages.specs.declared.rr.rdata.RData.{RData}

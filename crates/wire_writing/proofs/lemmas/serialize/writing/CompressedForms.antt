@@ -9,12 +9,12 @@ use Rattle.wire_names.specs.serialize.layout.Bytes.{BytesAt, KeepsFrom}
 use Rattle.wire_messages.specs.serialize.layout.FieldRanges.{IsRecordInRange}
 use Rattle.wire_messages.specs.serialize.layout.NameLayout.{LabelsAt}
 use Rattle.wire_messages.specs.serialize.layout.RecordLayout.{DataAt, FormAt, fixed_fields}
-use Rattle.wire_writing.specs.serialize.writing.Endings.{OwnerNoted}
+use Rattle.wire_writing.specs.representation.Endings.{OwnerNoted}
 use Rattle.wire_messages.specs.serialize.writing.FullForm.{EndsInFull, tsig_octets}
-use Rattle.wire_writing.specs.serialize.writing.Noted.{Notes, AreNotes, WritesLabels, Compresses}
+use Rattle.wire_writing.specs.representation.Noted.{Notes, AreNotes, WritesLabels, Compresses}
 use Rattle.wire_messages.specs.serialize.writing.RecordSize.{data_len, full_size, unwritable_reason}
 use Rattle.wire_writing.specs.serialize.writing.Writing.{Puts}
-use Rattle.wire_writing.specs.serialize.writing.WritingByNotes.{WritesData, WritesRecord}
+use Rattle.wire_writing.specs.representation.WritingByNotes.{WritesData, WritesRecord}
 use Rattle.wire_messages.specs.declared.rr.rdata.RData.{RData}
 use Rattle.wire_messages.specs.declared.rr.rdata.RData.TheVariants as rdata
 use Rattle.wire_messages.specs.declared.rr.record.Record.{Record}

@@ -8,8 +8,8 @@ use Rattle.std.proofs.lemmas.Bool.{cases_lt, cond-true, cond-false, false_from_n
 use Rattle.std.proofs.lemmas.List.{append_assoc, take-append-drop, map-append, get_or-take, take-take, take-append-le, get_or_append_left, get_or-append-add, take_all, get_or-map, take-map, length-map, map_more}
 use Rattle.std.proofs.Math.Seq.{take-nil}
 use Rattle.std.proofs.lemmas.List.Elements.{All-head, All-tail, All-push, All-take}
-use Rattle.wire_writing.specs.serialize.writing.Noted.{Notes, IsPlace, first_place, IsNotedAt}
-use Rattle.wire_writing.specs.serialize.writing.NameTable.{pairs, AreApart, AreLinked, IsKept, IsTable}
+use Rattle.wire_writing.specs.representation.Noted.{Notes, IsPlace, first_place, IsNotedAt}
+use Rattle.wire_writing.specs.representation.NameTable.{pairs, AreApart, AreLinked, IsKept, IsTable}
 use Rattle.wire_writing.specs.declared.serialize.writing.compression_table.Note.{Note}
 use Rattle.wire_writing.specs.declared.serialize.writing.compression_table.KeptName.{KeptName}
 

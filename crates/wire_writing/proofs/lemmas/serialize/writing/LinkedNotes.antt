@@ -7,8 +7,8 @@ use Rattle.std.proofs.lemmas.Slice.Eq.{bytes_eq-Decides}
 use Rattle.std.proofs.lemmas.Bool.{cases_lt, cases_eq, false_from_ne_true, cond-false}
 use Rattle.std.proofs.lemmas.List.{take-append-drop, map-append, get_or-take, take-take, take-append-le, get_or_append_left, get_or-append-add, take_all, length-map, length-set, length-replicate, get_or-replicate, get_or-set_same, get_or-set_other, get_or-map, drop_all, drop-append-le, drop-map, take-map}
 use Rattle.std.proofs.lemmas.List.Elements.{All-head, All-tail, All-push, All-nil, All-pop}
-use Rattle.wire_writing.specs.serialize.writing.Noted.{first_place}
-use Rattle.wire_writing.specs.serialize.writing.NameTable.{pairs, bucket, buckets, befores, AreApart, IsLast, AreLinked}
+use Rattle.wire_writing.specs.representation.Noted.{first_place}
+use Rattle.wire_writing.specs.representation.NameTable.{pairs, bucket, buckets, befores, AreApart, IsLast, AreLinked}
 use Rattle.wire_writing.specs.declared.serialize.writing.compression_table.Note.{Note}
 use Rattle.wire_writing.proofs.lemmas.serialize.writing.FirstPlaces.{pair, first_place-before, first_place-other, flipped_false, pairs-more, fresh_at, found_at}
 

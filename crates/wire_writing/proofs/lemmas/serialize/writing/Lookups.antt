@@ -5,7 +5,7 @@ use Rattle.std.specs.Str.{bytes_eq}
 use Rattle.std.proofs.lemmas.Slice.Eq.{bytes_eq-Decides}
 use Rattle.std.proofs.lemmas.Bool.{both_ways, cond-false, false_from_ne_true}
 use Rattle.std.proofs.lemmas.List.Elements.{All-head, All-tail}
-use Rattle.wire_writing.specs.serialize.writing.Noted.{Notes, first_place}
+use Rattle.wire_writing.specs.representation.Noted.{Notes, first_place}
 use Rattle.wire_writing.proofs.lemmas.serialize.writing.FirstPlaces.{first_place-behind}
 
 found_by : (b : Bool) (s t : List ℕ) (v p : ℕ) (ns : Notes) → (b ≡ true → s ≡ t) → cond b (Some v) (first_place s ns) ≡ Some p → (first_place s ns ≡ Some p → Contains ns (s, p)) → Contains ((t, v) ∷ ns) (s, p)

@@ -9,7 +9,7 @@ use Rattle.wire_names.specs.rr.domain.DomainName.{IsLabel, AreLabels, IsWire, wi
 use Rattle.wire_names.specs.serialize.layout.Bytes.{BytesAt, KeepsFrom}
 use Rattle.wire_messages.specs.serialize.layout.NameLayout.{LabelsAt}
 use Rattle.wire_messages.specs.serialize.layout.NameLayout.LabelsAt.{at_end, at_label, at_pointer}
-use Rattle.wire_writing.specs.serialize.writing.Noted.{Notes, first_place, IsNote, AreNotes, HasNote, AddsNotes, KeepsNotes, WritesLabels, Compresses}
+use Rattle.wire_writing.specs.representation.Noted.{Notes, first_place, IsNote, AreNotes, HasNote, AddsNotes, KeepsNotes, WritesLabels, Compresses}
 use Rattle.wire_names.proofs.lemmas.rr.domain.WireForm.{cut-wire, cut_of, is_wire_of}
 use Rattle.wire_messages.proofs.lemmas.serialize.layout.ByteTexts.{BytesAt-left}
 use Rattle.wire_messages.proofs.lemmas.serialize.layout.FormKeeps.{LabelsAt-longer}

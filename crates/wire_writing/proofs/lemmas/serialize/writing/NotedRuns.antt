@@ -3,10 +3,10 @@ use Rattle.std.proofs.Common.{◌≡◌, ◌≢◌, inl, inr, ℕ, ◌+◌, ◌<
 use Rattle.std.specs.List.{Contains}
 use Rattle.std.proofs.lemmas.List.{take_all, take-append-le}
 use Rattle.std.proofs.lemmas.List.Elements.{Contains-push_cases}
-use Rattle.wire_writing.specs.serialize.writing.Noted.{Notes, HasNote}
+use Rattle.wire_writing.specs.representation.Noted.{Notes, HasNote}
 use Rattle.wire_names.specs.rr.domain.DomainName.{wire_form}
 use Rattle.wire_writing.specs.serialize.writing.OwnerNames.{OwnerPlace}
-use Rattle.wire_writing.specs.serialize.writing.Endings.{OwnerNoted, NotedRun}
+use Rattle.wire_writing.specs.representation.Endings.{OwnerNoted, NotedRun}
 use Rattle.wire_writing.specs.serialize.writing.Writing.{Puts, PutsAll, PutsRepeating}
 use Rattle.wire_messages.specs.declared.rr.rdata.RData.{RData}
 use Rattle.wire_messages.specs.declared.rr.record.Record.{Record}

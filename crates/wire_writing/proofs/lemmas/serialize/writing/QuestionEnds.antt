@@ -8,8 +8,8 @@ use Rattle.std.proofs.lemmas.Slice.Eq.{bytes_eq-Decides}
 use Rattle.std.specs.List.{All}
 use Rattle.std.specs.Str.{bytes_eq}
 use Rattle.wire_names.specs.rr.domain.DomainName.{wire_form, cut, IsWire}
-use Rattle.wire_writing.specs.serialize.writing.Noted.{Notes, IsPlace, first_place, IsNotedAt}
-use Rattle.wire_writing.specs.serialize.writing.QuestionNames.{ends_from}
+use Rattle.wire_writing.specs.representation.Noted.{Notes, IsPlace, first_place, IsNotedAt}
+use Rattle.wire_writing.specs.representation.QuestionNames.{ends_from}
 use Rattle.wire_writing.proofs.lemmas.serialize.writing.Lookups.{fresh_behind}
 
 pub ends-length : (p : ℕ) (ls : List (List ℕ)) → length (ends_from p ls) ≡ length ls

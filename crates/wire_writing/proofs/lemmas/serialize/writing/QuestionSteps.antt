@@ -9,8 +9,8 @@ use Rattle.wire_names.specs.serialize.layout.Bytes.{BytesAt}
 use Rattle.wire_messages.specs.serialize.layout.NameLayout.{LabelsAt}
 use Rattle.wire_messages.specs.serialize.reading.NameReading.{label_at}
 use Rattle.wire_messages.specs.serialize.writing.FullForm.{name_octets}
-use Rattle.wire_writing.specs.serialize.writing.Noted.{Notes, IsNote, AreNotes}
-use Rattle.wire_writing.specs.serialize.writing.QuestionNames.{StandsInFull, ends_from}
+use Rattle.wire_writing.specs.representation.Noted.{Notes, IsNote, AreNotes}
+use Rattle.wire_writing.specs.representation.QuestionNames.{StandsInFull, ends_from}
 use Rattle.wire_names.proofs.lemmas.rr.domain.WireForm.{cut_of, cut-wire, wire-push, is_wire_of, name_len-wire_form}
 use Rattle.wire_messages.proofs.lemmas.serialize.layout.ByteTexts.{BytesAt-right, BytesAt-both, stands_take}
 use Rattle.wire_messages.proofs.lemmas.serialize.layout.Stands.{label_len, stands_label, stands_one}

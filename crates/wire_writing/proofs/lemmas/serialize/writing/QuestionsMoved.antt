@@ -1,4 +1,5 @@
--- A question that was read behind the header of a request stands in the bytes of its reply, and so do questions in full.
+-- A question that was read behind the header of a request stands in the bytes of its reply, and so do questions in
+-- full.
 use Rattle.std.proofs.Common.{◌≡◌, ℕ, ◌+◌, ◌-◌, ◌<◌, ◌≤◌, List, [], ◌∷◌, ◌++◌, length, get_or, take, drop, replicate, sym, ap, subst, ◌∙◌, arith, length-append}
 use Rattle.std.proofs.lemmas.List.{get_or-append-add, get_or-drop, get_or-take, length-drop, length-take}
 use Rattle.std.specs.Prelude.{slice_range}

@@ -3,7 +3,7 @@ use Rattle.std.proofs.Common.{◌≡◌, ◌≢◌, ℕ, ◌+◌, ◌<◌, ◌�
 use Rattle.std.specs.Prelude.{is_some, ◌||◌}
 use Rattle.std.proofs.lemmas.List.{take_all, take-append-le, drop-append-le, drop_at, map-append}
 use Rattle.std.specs.Borrow.{Bor}
-use Rattle.wire_writing.specs.serialize.writing.Endings.{RecordEnds, seen_ending, count_of_one, fault_of, is_cut_by, front_of_ending, ListAdds, ListFollows}
+use Rattle.wire_writing.specs.representation.Endings.{RecordEnds, seen_ending, count_of_one, fault_of, is_cut_by, front_of_ending, ListAdds, ListFollows}
 use Rattle.wire_writing.specs.serialize.writing.Writing as writing
 use Rattle.wire_writing.specs.serialize.writing.Writing.{Puts, PutsAll, Ends, ListWritten, ListFront, ListsWritten, ending_of, nothing_put}
 use Rattle.wire_writing.specs.serialize.writing.Writing.ListsWritten.{none_left, next_list, stuck_list}
@@ -143,21 +143,21 @@ or_false : (b : Bool) → b ≡ (b || false)
 or_false true = refl
 or_false false = refl
 
-pub adds_none : (limit : ℕ) (stops : Stops) (old : List ℕ) → ListAdds limit stops stops old [] old 0 false
+pub adds_none : (limit : ℕ) (stops : Stops) (old : List ℕ) → ListAdds limit (record { bytes = old; stops = stops }) [] (record { bytes = old; stops = stops }) 0 false
 adds_none limit stops old = (nothing_follows limit old stops.fault, or_false stops.is_cut, λ none. none)
 
 -- what is remembered of a list behind one that is stuck
-pub adds_stuck : (limit : ℕ) (stops : Stops) (old : List ℕ) (records : List (Record RData)) (e : ProtoError) → stops.fault ≡ Some e → ListAdds limit stops stops old records old 0 false
+pub adds_stuck : (limit : ℕ) (stops : Stops) (old : List ℕ) (records : List (Record RData)) (e : ProtoError) → stops.fault ≡ Some e → ListAdds limit (record { bytes = old; stops = stops }) records (record { bytes = old; stops = stops }) 0 false
 adds_stuck limit stops old records e is = (rw is (follows_stuck limit old records e), or_false stops.is_cut, λ none. none)
 
 -- what is remembered of a run
 pub adds_run : (limit : ℕ) (stops stops' : Stops) (old new : List ℕ) (records : List (Record RData)) (count : ℕ) (ending : Ending) → stops.fault ≡ None → stops'.fault ≡ fault_of ending → stops'.is_cut ≡ (stops.is_cut || is_cut_by ending)
-    → ListWritten limit old records new count (seen_ending ending) → ListAdds limit stops stops' old records new count (is_cut_by ending)
+    → ListWritten limit old records new count (seen_ending ending) → ListAdds limit (record { bytes = old; stops = stops }) records (record { bytes = new; stops = stops' }) count (is_cut_by ending)
 adds_run limit stops stops' old new records count ending none fault cut w = (rw (none, fault) (follows_run limit old new records count ending w), cut, λ unstuck. none)
 
 -- what is remembered of the list of one record
 pub adds_one : (limit : ℕ) (stops stops' : Stops) (old new : List ℕ) (r : Record RData) (ending : Ending) → stops.fault ≡ None → stops'.fault ≡ fault_of ending → stops'.is_cut ≡ (stops.is_cut || is_cut_by ending)
-    → RecordEnds limit old r new ending → ListAdds limit stops stops' old (r ∷ []) new (count_of_one ending) (is_cut_by ending)
+    → RecordEnds limit old r new ending → ListAdds limit (record { bytes = old; stops = stops }) (r ∷ []) (record { bytes = new; stops = stops' }) (count_of_one ending) (is_cut_by ending)
 adds_one limit stops stops' old new r ending none fault cut h = adds_run limit stops stops' old new (r ∷ []) (count_of_one ending) ending none fault cut (list_one limit old new r ending h)
 
 -- a record leaves the header and the limit

@@ -2,8 +2,8 @@
 use Rattle.std.proofs.Common.{◌≡◌, ◌≢◌, ℕ, ◌-◌, ◌<◌, List, [], ◌∷◌, ◌++◌, length, take, Option, None, refl, sym, ap, ◌∙◌, subst, arith, length-append, length-take}
 use Rattle.std.proofs.lemmas.List.{append-nil, map-append, take-map, nil_from_length}
 use Rattle.std.specs.List.{All}
-use Rattle.wire_writing.specs.serialize.writing.Noted.{Notes, IsPlace, first_place}
-use Rattle.wire_writing.specs.serialize.writing.NameTable.{pairs, AreLinked, IsKept, IsTable, IsStored}
+use Rattle.wire_writing.specs.representation.Noted.{Notes, IsPlace, first_place}
+use Rattle.wire_writing.specs.representation.NameTable.{pairs, AreLinked, IsKept, IsTable, IsStored}
 use Rattle.wire_writing.specs.declared.serialize.writing.compression_table.Note.{Note}
 use Rattle.wire_writing.specs.declared.serialize.writing.compression_table.KeptName.{KeptName}
 use Rattle.wire_writing.proofs.lemmas.serialize.writing.FirstPlaces.{pair, first_place-rest, none_kept, take_both, IsTable-push, IsTable-take}

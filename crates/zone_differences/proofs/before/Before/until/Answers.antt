@@ -6,7 +6,7 @@ use Rattle.std.proofs.lemmas.List.Elements.{recursion_from_All}
 use Rattle.wire_names.specs.rr.domain.DomainName.{DomainName}
 use Rattle.hickory_base.specs.zone_store.ZoneRecords.{rrset}
 use Rattle.hickory_base.specs.zone_store.ZoneSets.{zone_records}
-use Rattle.hickory_store.proofs.ApexNs.{Records, Resource}
+use Rattle.hickory_store.proofs.lemmas.updates.ApexNs.{Records, Resource}
 use Rattle.zone_differences.specs.Standing.{are_among, came, went}
 use Rattle.zone_differences.specs.declared.names.NameRecords.{NameRecords}
 use Rattle.zone_differences.proofs.Compared.{is_difference}

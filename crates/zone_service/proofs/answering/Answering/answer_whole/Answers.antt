@@ -1,7 +1,10 @@
 use Rattle.std.proofs.Common.{[], refl, rules, arith, ◌∙◌, sym}
 use Rattle.wire_messages.specs.declared.protocol.Protocol.TheVariants.{Tcp}
+use Rattle.hickory_server.specs.server.ServedBy.{arrival}
 use Rattle.hickory_server.specs.declared.server.answer.Answer.TheVariants.{Replies}
-use Rattle.zone_service.specs.Serving.{BecomesOf, IsRefused, KeyedServer, keyed_of, none, waiting_in}
+use Rattle.signed_server.specs.KeyedServers.{KeyedServer, keyed_of}
+use Rattle.signed_server.specs.ServedWithKeys.{ServedWithKeys}
+use Rattle.zone_service.specs.Serving.{IsRefused, none, waiting_in}
 use Rattle.zone_service.proofs.Streams.{answered_more, at_zones, refused_last, rest_is, stays_on, stays_so, within_more}
 use Rattle.zone_service.proofs.answering.Answering.answer_whole.Goals as goal
 
@@ -25,7 +28,7 @@ returns-in-Err-clause-answered g c =
     (refused_last (keyed_of g.H.ZoneHandler g.S.ReplySigner.signature_for first) c.args.source c.args.now c.args.bytes.now c.loop.consumed c.loop.written c.loop.out c.loop.self.server.server.catalog.zones
     c.answer_at.new.self.server.server.catalog.zones c.args.self.now.log c.loop.self.log c.in-Some.message.now c.in-Err.refusal (rw idle at so_far) (rw (rest_is c.args.bytes.now c.loop.consumed) at begins)
     (at_zones g.H.ZoneHandler g.S.ReplySigner.signature_for first c.loop.self.server stays
-    (λ (s : KeyedServer _). IsRefused s c.in-Some.message.now c.args.source Tcp c.args.now c.in-Err.refusal c.answer_at.new.self.server.server.catalog.zones)
+    (λ (s : KeyedServer _). IsRefused s (arrival c.in-Some.message.now c.args.source Tcp c.args.now) c.in-Err.refusal c.answer_at.new.self.server.server.catalog.zones)
     c.in-Err.ensures.err))
 
 pub returns-in-Err-clause-within : goal.returns-in-Err-clause-within
@@ -55,7 +58,7 @@ loop-preserved g c =
       answered_more (keyed_of g.H.ZoneHandler g.S.ReplySigner.signature_for first) c.args.source c.args.now c.args.bytes.now c.loop.consumed c.loop.written c.loop.out c.loop.self.server.server.catalog.zones
           c.answer_at.new.self.server.server.catalog.zones c.args.self.now.log c.loop.self.log c.answer_at.new.self.log c.in-Some.message.now sent c.answer_at.new.out c.in-Ok.end (waiting_in c.answer_at.new.self) (rw idle at so_far) front
           (at_zones g.H.ZoneHandler g.S.ReplySigner.signature_for first c.loop.self.server stays
-          (λ (s : KeyedServer _). BecomesOf s c.in-Some.message.now c.args.source Tcp c.args.now (Replies sent) c.answer_at.new.self.server.server.catalog.zones)
+          (λ (s : KeyedServer _). ServedWithKeys s (arrival c.in-Some.message.now c.args.source Tcp c.args.now) (Replies sent) c.answer_at.new.self.server.server.catalog.zones)
           served)
           logged put,
     )

@@ -1,6 +1,7 @@
 -- The messages so far are answered.
 use Rattle.std.proofs.Common.{◌≡◌, ◌≤◌, ◌*◌, None, length}
-use Rattle.zone_service.specs.Serving.{IsAnsweredStream, Stays, keyed_of, waiting_in}
+use Rattle.signed_server.specs.KeyedServers.{keyed_of}
+use Rattle.zone_service.specs.Serving.{IsAnsweredStream, Stays, standing_of}
 use Rattle.zone_service.proofs.answering.Answering.answer_whole.Given as goal
 
 abbrev pub invariant-loop : goal.invariant-loop
@@ -9,4 +10,5 @@ invariant-loop g l = Stays l.fn.self.server l.self.server
     × (l.written ≤ length l.out)
     × (2 * l.counter ≤ l.consumed)
     × (l.consumed ≤ length l.bytes)
-    × IsAnsweredStream (keyed_of g.H.ZoneHandler g.S.ReplySigner.signature_for l.fn.self.server) l.bytes l.source l.now (record { consumed = l.consumed; written = l.written; refusal = None }) l.out (waiting_in l.self) l.self.server.server.catalog.zones l.fn.self.log l.self.log
+    × IsAnsweredStream (keyed_of g.H.ZoneHandler g.S.ReplySigner.signature_for l.fn.self.server) l.fn.self.log (record { bytes = l.bytes; source = l.source; now = l.now })
+    (record { consumed = l.consumed; written = l.written; refusal = None }) l.out (standing_of l.self)

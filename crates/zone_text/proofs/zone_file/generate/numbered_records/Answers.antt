@@ -2,7 +2,7 @@ use Rattle.std.proofs.Common.{◌≡◌, ◌∙◌, ◌+◌, ◌*◌, ◌≤◌,
 use Rattle.std.proofs.lemmas.Result.{err_from_is_err_and}
 use Rattle.wire_messages.specs.declared.rr.rdata.RData.{RData}
 use Rattle.wire_messages.specs.declared.rr.record.Record.{Record}
-use Rattle.zone_text.specs.ZoneFiles.{IsNumberedRecord}
+use Rattle.zone_text.specs.ZoneFiles.{IsNumberedRecord, template}
 use Rattle.zone_text.specs.ZoneFiles.AreEach.{none}
 use Rattle.zone_text.proofs.Generating.{all_reached, below_more, each_of, next_number, one_more}
 use Rattle.zone_text.proofs.zone_file.generate.numbered_records.Goals as goal
@@ -17,8 +17,8 @@ returns-in_err-record-clause-refused c =
     let k : ℕ = length c.numbers.records in
     rw (p.1, p.2) (λ other count reached records each.
     let within : range.first + k * range.step ≤ range.last = subst (λ (n : ℕ). n ≤ range.last) c.numbers.invariant.at c.numbers-test.true in
-    let one = each_of (λ n. IsNumberedRecord c.args.before.now c.args.lhs.now c.args.front.now.ttl c.args.front.now.record_type c.args.rhs.now (range.first + n * range.step)) count k records each ((reached k).1 within) in
-    c.in_err-record.ensures.refused other one.0 (subst (λ (n : ℕ). IsNumberedRecord c.args.before.now c.args.lhs.now c.args.front.now.ttl c.args.front.now.record_type c.args.rhs.now n one.0) (sym c.numbers.invariant.at) one.1))
+    let one = each_of (λ n. IsNumberedRecord c.args.before.now (template c.args.lhs.now c.args.front.now.ttl c.args.front.now.record_type c.args.rhs.now) (range.first + n * range.step)) count k records each ((reached k).1 within) in
+    c.in_err-record.ensures.refused other one.0 (subst (λ (n : ℕ). IsNumberedRecord c.args.before.now (template c.args.lhs.now c.args.front.now.ttl c.args.front.now.record_type c.args.rhs.now) n one.0) (sym c.numbers.invariant.at) one.1))
 
 pub numbers-preserved : goal.numbers-preserved
 numbers-preserved c =
@@ -27,8 +27,8 @@ numbers-preserved c =
     let new : List (Record RData) = c.push.new.self in
     let longer : length new ≡ length old + 1 = ap length c.in_ok-push.ensures.ok ∙ length-append old (c.in_ok-record.record ∷ []) in
     record {
-      each = one_more (λ k. IsNumberedRecord c.args.before.now c.args.lhs.now c.args.front.now.ttl c.args.front.now.record_type c.args.rhs.now (range.first + k * range.step)) old new c.in_ok-record.record c.in_ok-push.ensures.ok c.numbers.invariant.each
-          (subst (λ (n : ℕ). IsNumberedRecord c.args.before.now c.args.lhs.now c.args.front.now.ttl c.args.front.now.record_type c.args.rhs.now n c.in_ok-record.record) c.numbers.invariant.at c.in_ok-record.ensures.record_is);
+      each = one_more (λ k. IsNumberedRecord c.args.before.now (template c.args.lhs.now c.args.front.now.ttl c.args.front.now.record_type c.args.rhs.now) (range.first + k * range.step)) old new c.in_ok-record.record c.in_ok-push.ensures.ok c.numbers.invariant.each
+          (subst (λ (n : ℕ). IsNumberedRecord c.args.before.now (template c.args.lhs.now c.args.front.now.ttl c.args.front.now.record_type c.args.rhs.now) n c.in_ok-record.record) c.numbers.invariant.at c.in_ok-record.ensures.record_is);
       at = ap (λ (n : ℕ). n + range.step) c.numbers.invariant.at ∙ next_number range.first range.step (length old) ∙ ap (λ (n : ℕ). range.first + n * range.step) (sym longer);
       below = below_more range.first range.step range.last (length old) (length new) longer (subst (λ (n : ℕ). n ≤ range.last) c.numbers.invariant.at c.numbers-test.true) c.numbers.invariant.below;
     }

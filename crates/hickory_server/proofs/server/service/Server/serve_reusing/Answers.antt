@@ -1,9 +1,9 @@
 use Rattle.std.proofs.Common.{◌≡◌, ◌≤◌, length, rules, refl}
 use Rattle.std.specs.Net.Socket.{socket_ip}
 use Rattle.access_control.specs.Access.{IsAllowed}
-use Rattle.hickory_server.specs.Ruling.{IsResponse}
-use Rattle.hickory_server.specs.ServedBy.{unreadable}
-use Rattle.hickory_server.proofs.BytesServed.{left, read_as, served}
+use Rattle.hickory_server.specs.server.Ruling.{IsResponse}
+use Rattle.hickory_server.specs.server.ServedBy.{unreadable}
+use Rattle.hickory_server.proofs.lemmas.server.BytesServed.{left, read_as, served}
 use Rattle.hickory_server.proofs.server.service.Server.serve_reusing.Goals as goal
 
 pub returns-in-Ok-answered-clause-ok : goal.returns-in-Ok-answered-clause-ok
@@ -28,9 +28,11 @@ returns-in-Err-answered-clause-err g c message is =
 
 pub returns-in-Err : goal.returns-in-Err
 returns-in-Err g c =
-    let allowed : IsAllowed c.args.self.now.rules.access.deny c.args.self.now.rules.access.allow (socket_ip c.args.src) = search rules in record {
+    let allowed : IsAllowed c.args.self.now.rules.access.deny c.args.self.now.rules.access.allow (socket_ip c.args.src) = search rules in
+    let whole : 12 ≤ length c.args.bytes.now = search rules in
+    let no_response : ¬ (IsResponse c.args.bytes.now) = search rules in record {
       rules = refl;
       others = refl;
-      ok = λ message is. unreadable {e = c.in-Err.field-0} (rw is.source_is allowed) (rw is.bytes_are (c.in-Err.ensures.fault (search rules))) refl refl;
+      ok = λ message is. unreadable {e = c.in-Err.field-0} (rw is.source_is allowed) (rw is.bytes_are whole) (rw is.bytes_are no_response) (rw is.bytes_are (c.in-Err.ensures.fault (search rules))) refl refl;
       err = tt;
     }

@@ -1,7 +1,7 @@
 use Rattle.std.proofs.Common.{subst}
 use Rattle.std.proofs.lemmas.Result.{on_ok_weaker}
-use Rattle.hickory_store.specs.Entries.{Tells}
-use Rattle.hickory_store.proofs.Listing.{skips_line, adds_line}
+use Rattle.hickory_store.specs.blocklist.Entries.{Tells}
+use Rattle.hickory_store.proofs.lemmas.blocklist.ListedLines.{skips_line, adds_line}
 use Rattle.hickory_store.proofs.blocklist.entries.Entries.add_line.Goals as goal
 
 pub returns-in-Some-clause-ok : goal.returns-in-Some-clause-ok

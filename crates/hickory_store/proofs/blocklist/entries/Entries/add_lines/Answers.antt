@@ -4,8 +4,8 @@ use Rattle.std.proofs.lemmas.Iterator.Consumers.{YieldsList-so_far, YieldsList-t
 use Rattle.std.proofs.lemmas.Iterator.Splits.{YieldsList-from_lines}
 use Rattle.std.specs.Str.Lines.{lines}
 use Rattle.wire_names.specs.rr.domain.DomainName.{DomainName}
-use Rattle.hickory_store.specs.Entries.{AddsLines, AddsFirstLines}
-use Rattle.hickory_store.proofs.Listing.{adds_more, on_any_err}
+use Rattle.hickory_store.specs.blocklist.Entries.{AddsLines, AddsFirstLines}
+use Rattle.hickory_store.proofs.lemmas.blocklist.ListedLines.{adds_more, on_any_err}
 use Rattle.hickory_store.proofs.blocklist.entries.Entries.add_lines.Goals as goal
 
 pub loop-line-preserved : goal.loop-line-preserved

@@ -1,5 +1,5 @@
 use Rattle.std.proofs.Common.{map}
-use Rattle.hickory_store.specs.Entries.{AddsLines}
+use Rattle.hickory_store.specs.blocklist.Entries.{AddsLines}
 use Rattle.hickory_store.proofs.blocklist.entries.Entries.add_lines.Given as goal
 
 abbrev pub invariant-loop-line : goal.invariant-loop-line

@@ -1,5 +1,5 @@
 use Rattle.std.proofs.Common.{ap, ◌∙◌}
-use Rattle.hickory_store.proofs.Kept.{tells_entry, has}
+use Rattle.hickory_store.proofs.lemmas.blocklist.KeptNames.{tells_entry, has}
 use Rattle.hickory_store.proofs.blocklist.entries.Entries.contains.Goals as goal
 
 pub returns : goal.returns

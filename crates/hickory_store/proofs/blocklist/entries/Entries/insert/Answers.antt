@@ -1,6 +1,6 @@
 use Rattle.std.proofs.Common.{sym, ◌∙◌, subst}
-use Rattle.hickory_store.specs.Entries.{AddsEntry}
-use Rattle.hickory_store.proofs.Kept.{adds_entry, beside_plain, put_entries}
+use Rattle.hickory_store.specs.blocklist.Entries.{AddsEntry}
+use Rattle.hickory_store.proofs.lemmas.blocklist.KeptNames.{adds_entry, beside_plain, put_entries}
 use Rattle.hickory_store.proofs.blocklist.entries.Entries.insert.Goals as goal
 
 pub invariant_of-self-2 : goal.invariant_of-self-2

@@ -1,6 +1,6 @@
 use Rattle.std.proofs.Common.{sym, subst}
-use Rattle.hickory_store.specs.Entries.{AddsEntry, AreEntries}
-use Rattle.hickory_store.proofs.Kept.{adds_entry, beside_wildcard, beside_back, put_entries, shortened}
+use Rattle.hickory_store.specs.blocklist.Entries.{AddsEntry, AreEntries}
+use Rattle.hickory_store.proofs.lemmas.blocklist.KeptNames.{adds_entry, beside_wildcard, beside_back, put_entries, shortened}
 use Rattle.hickory_store.proofs.blocklist.entries.Entries.insert_wildcard.Goals as goal
 
 pub invariant_of-self-in-Ok : goal.invariant_of-self-in-Ok

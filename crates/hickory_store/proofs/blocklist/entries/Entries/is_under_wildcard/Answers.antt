@@ -1,8 +1,8 @@
 use Rattle.std.proofs.Common.{◌≡◌, ◌<◌, true, false, length, sym, ◌∙◌, subst, rules}
 use Rattle.std.proofs.lemmas.Bool.{false≢true}
 use Rattle.std.specs.Prelude.{◌↔◌, IsTrue}
-use Rattle.hickory_store.specs.Blocked.{IsUnderWildcard}
-use Rattle.hickory_store.proofs.Shortening.{up, filled, emptied, none_next, under_at, under_none}
+use Rattle.hickory_store.specs.blocklist.Blocked.{IsUnderWildcard}
+use Rattle.hickory_store.proofs.lemmas.blocklist.ShortenedNames.{up, filled, emptied, none_next, under_at, under_none}
 use Rattle.hickory_store.proofs.blocklist.entries.Entries.is_under_wildcard.Goals as goal
 
 pub returns-then-contains : goal.returns-then-contains

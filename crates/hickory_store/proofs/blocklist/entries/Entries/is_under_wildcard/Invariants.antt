@@ -1,5 +1,5 @@
 use Rattle.std.proofs.Common.{length}
-use Rattle.hickory_store.proofs.Shortening.{IsAbove, NoneFrom}
+use Rattle.hickory_store.proofs.lemmas.blocklist.ShortenedNames.{IsAbove, NoneFrom}
 use Rattle.hickory_store.proofs.blocklist.entries.Entries.is_under_wildcard.Given as goal
 
 abbrev pub invariant-loop-self : goal.invariant-loop-self

@@ -2,9 +2,9 @@ use Rattle.std.proofs.Common.{◌≡◌, List, ℕ, Err, ap, ◌∙◌, subst}
 use Rattle.std.specs.Str.{IsUtf8}
 use Rattle.std.specs.Str.Lines.{lines}
 use Rattle.wire_names.specs.rr.domain.DomainName.{DomainName}
-use Rattle.hickory_store.specs.BlockAnswers.{Blocklist}
-use Rattle.hickory_store.specs.Entries.{AddsLines, AddsFirstLines}
-use Rattle.hickory_store.proofs.Adding.{nothing_added, front_added}
+use Rattle.hickory_store.specs.blocklist.BlockAnswers.{Blocklist}
+use Rattle.hickory_store.specs.blocklist.Entries.{AddsLines, AddsFirstLines}
+use Rattle.hickory_store.proofs.lemmas.blocklist.AddedLists.{nothing_added, front_added}
 use Rattle.hickory_store.proofs.blocklist.handler.BlocklistZoneHandler.add.Goals as goal
 
 pub returns-in_err-bytes-clause-added : goal.returns-in_err-bytes-clause-added

@@ -3,8 +3,8 @@ use Rattle.std.specs.List.{AllZip}
 use Rattle.std.proofs.lemmas.List.{map-append}
 use Rattle.std.proofs.lemmas.Iterator.Consumers.{YieldsList-end}
 use Rattle.std.proofs.lemmas.Iterator.Splits.{YieldsList-from_lines}
-use Rattle.hickory_store.specs.ListReports.{IsLine}
-use Rattle.hickory_store.proofs.ListReports.{said-push}
+use Rattle.hickory_store.specs.blocklist.ListReports.{IsLine}
+use Rattle.hickory_store.proofs.lemmas.blocklist.ListReports.{said-push}
 use Rattle.hickory_store.proofs.blocklist.report.ListReport.of_text.Goals as goal
 
 pub loop-line-preserved : goal.loop-line-preserved

@@ -1,6 +1,6 @@
 use Rattle.std.proofs.Common.{map, List}
 use Rattle.std.specs.List.{AllZip}
-use Rattle.hickory_store.specs.ListReports.{IsLine, IsReport}
+use Rattle.hickory_store.specs.blocklist.ListReports.{IsLine, IsReport}
 use Rattle.hickory_store.specs.declared.blocklist.lines.ListLine.{ListLine}
 use Rattle.hickory_store.proofs.blocklist.report.ListReport.of_text.Given as goal
 

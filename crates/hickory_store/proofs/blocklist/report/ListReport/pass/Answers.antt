@@ -1,5 +1,5 @@
 use Rattle.std.proofs.Common.{refl}
-use Rattle.hickory_store.proofs.ListReports.{passes}
+use Rattle.hickory_store.proofs.lemmas.blocklist.ListReports.{passes}
 use Rattle.hickory_store.proofs.blocklist.report.ListReport.pass.Goals as goal
 
 pub returns : goal.returns

@@ -1,5 +1,5 @@
 use Rattle.std.proofs.Common.{refl, rules}
-use Rattle.hickory_store.proofs.ListReports.{skips, skips_told}
+use Rattle.hickory_store.proofs.lemmas.blocklist.ListReports.{skips, skips_told}
 use Rattle.hickory_store.proofs.blocklist.report.ListReport.skip.Goals as goal
 
 pub returns-in_ok-push : goal.returns-in_ok-push

@@ -1,5 +1,5 @@
 use Rattle.std.proofs.Common.{refl}
-use Rattle.hickory_store.proofs.ListReports.{takes}
+use Rattle.hickory_store.proofs.lemmas.blocklist.ListReports.{takes}
 use Rattle.hickory_store.proofs.blocklist.report.ListReport.take.Goals as goal
 
 pub returns : goal.returns

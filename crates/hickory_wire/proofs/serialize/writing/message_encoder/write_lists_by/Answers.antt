@@ -1,7 +1,7 @@
 use Rattle.std.proofs.Common.{◌≡◌, ◌++◌, List, length, refl, subst, take, rules}
 use Rattle.std.specs.Iterator.Adapters.{chain_second}
-use Rattle.wire_writing.specs.serialize.writing.Noted.{AreNotes}
-use Rattle.wire_writing.specs.serialize.writing.Endings.{Front, GivesRecords, ListFollows, NotedRun, seen_front}
+use Rattle.wire_writing.specs.representation.Noted.{AreNotes}
+use Rattle.wire_writing.specs.representation.Endings.{Front, GivesRecords, ListFollows, NotedRun, seen_front}
 use Rattle.wire_writing.specs.serialize.writing.Writing.{Fronts}
 use Rattle.wire_messages.specs.declared.rr.rdata.RData.{RData}
 use Rattle.wire_messages.specs.declared.rr.record.Record.{Record}
@@ -27,7 +27,7 @@ returns-clause-written g c =
     let three = c.in_ok-additionals.ensures.written in
     let four = c.in_ok-opts.ensures.written in
     let last = c.in_ok-signatures.ensures.written in
-    let both = chain_gives g.N.Iterator.next_gives g.S.Iterator.next_gives c.chain.result c.args.parts.authorities _ two.0 c.chain.ensures.runs two.2 in
+    let both = chain_gives g.N.Iterator.next_gives g.S.Iterator.next_gives c.chain-all_authorities.result c.args.parts.authorities _ two.0 c.chain-all_authorities.ensures.runs two.2 in
     let all = both.0 ++ both.1 in
     let limit = c.args.limit in
     let start = c.args.bytes.now.items in
@@ -40,7 +40,7 @@ returns-clause-written g c =
     let run2 = subst (λ (l : List (Record RData)). NotedRun limit c.write_list.new.bytes.items c.write_list.new.table (take f2.count l) c.write_list-2.new.bytes.items c.write_list-2.new.table) both.4 two.4 in
     let runs = run_both limit (take f1.count one.0 ++ take f2.count all) (take f3.count three.0) start c.write_list-2.new.bytes.items c.write_list-3.new.bytes.items c.if-has_records.table c.write_list-2.new.table c.write_list-3.new.table
     (run_both limit (take f1.count one.0) (take f2.count all) start c.write_list.new.bytes.items c.write_list-2.new.bytes.items c.if-has_records.table c.write_list.new.table c.write_list-2.new.table one.4 run2) three.4 in
-    let same : chain_second c.chain.result ≡ c.args.parts.soa = search rules in
+    let same : chain_second c.chain-all_authorities.result ≡ c.args.parts.soa = search rules in
     let follows = subst (λ (l : List (Record RData)). ListFollows limit c.write_list.new.stops.fault c.write_list.new.bytes.items l c.write_list-2.new.bytes.items f2) both.4 two.3.0 in
     let five = five_lists limit start c.write_list.new.bytes.items c.write_list-2.new.bytes.items c.write_list-3.new.bytes.items c.write_optional_edns.new.bytes.items c.write_optional_signature.new.bytes.items
     one.0 all three.0 _ _ f1 f2 f3 f4 f5

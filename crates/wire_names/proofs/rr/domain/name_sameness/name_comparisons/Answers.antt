@@ -1,5 +1,5 @@
 use Rattle.wire_names.proofs.lemmas.rr.domain.SameNames.{eq_from_same, eq_from_order, order_from_eq, same_order, lower_same, lower_exact}
-use Rattle.wire_names.specs.rr.domain.NameHash.{name_hash_alike, same_from_eq}
+use Rattle.wire_names.specs.representation.NameHash.{name_hash_alike, same_from_eq}
 use Rattle.wire_names.proofs.rr.domain.name_sameness.name_comparisons.Goals as goal
 
 pub returns-clause-equal : goal.returns-clause-equal

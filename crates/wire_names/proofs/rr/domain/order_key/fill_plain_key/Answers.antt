@@ -1,7 +1,7 @@
 use Rattle.std.proofs.Common.{◌≡◌, ◌+◌, ◌∷◌, ◌++◌, ◌∙◌, ◌-◌, ℕ, List, length, drop, take, get_or, ap, sym, arith, []}
 use Rattle.std.proofs.lemmas.List.{length-take, take_all}
 use Rattle.wire_names.specs.rr.domain.DomainName.{cut}
-use Rattle.wire_names.specs.rr.domain.OrderKey.{escaped, order_key}
+use Rattle.wire_names.specs.representation.OrderKey.{escaped, order_key}
 use Rattle.wire_names.proofs.lemmas.rr.domain.WireForm.{below_at}
 use Rattle.wire_names.proofs.lemmas.rr.domain.LabelOrder.{Advance, advance, Site, site}
 use Rattle.wire_names.proofs.lemmas.rr.domain.OrderKeys.{one_more}

@@ -1,8 +1,8 @@
 use Rattle.std.proofs.Common.{◌≡◌, ◌+◌, ◌∷◌, ◌++◌, ◌∙◌, ◌-◌, ℕ, IfOk, subst, length-drop, List, length, drop, take, get_or, ap, sym, arith, []}
 use Rattle.std.proofs.lemmas.List.{length-take, take_all}
 use Rattle.wire_names.specs.rr.domain.DomainName.{cut}
-use Rattle.wire_names.specs.rr.domain.NameBytes.{wire_bytes}
-use Rattle.wire_names.specs.rr.domain.OrderKey.{escaped, order_key}
+use Rattle.wire_names.specs.representation.NameBytes.{wire_bytes}
+use Rattle.wire_names.specs.representation.OrderKey.{escaped, order_key}
 use Rattle.wire_names.proofs.lemmas.rr.domain.WireForm.{below_at}
 use Rattle.wire_names.proofs.lemmas.rr.domain.LabelOrder.{Advance, advance, Site, site}
 use Rattle.wire_names.proofs.lemmas.rr.domain.OrderKeys.{one_more}

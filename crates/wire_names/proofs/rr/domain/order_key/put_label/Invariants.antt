@@ -1,5 +1,5 @@
 use Rattle.std.proofs.Common.{◌≡◌, ◌+◌, ◌*◌, ◌<◌, ◌≤◌, ◌∷◌, ◌++◌, length, drop}
-use Rattle.wire_names.specs.rr.domain.OrderKey.{escaped}
+use Rattle.wire_names.specs.representation.OrderKey.{escaped}
 use Rattle.wire_names.proofs.rr.domain.order_key.put_label.Given as goal
 
 abbrev pub invariant-loop-left : goal.invariant-loop-left

@@ -1,5 +1,5 @@
 use Rattle.std.proofs.Common.{◌≤◌, ◌+◌, ◌-◌, length, drop}
-use Rattle.wire_reading.specs.serialize.reading.KnownNames.{IsRest, AreRests}
+use Rattle.wire_reading.specs.representation.KnownNames.{IsRest, AreRests}
 use Rattle.wire_reading.proofs.serialize.reading.known_names.note_rests.Given as goal
 
 abbrev pub invariant-places : goal.invariant-places

@@ -48,7 +48,7 @@ labels-preserved c =
     let l = c.labels in
     let n = c.from-high.result in
     let h : slice_get c.args.bytes.now l.place ≡ Some n = cc in
-    let t = c.in_ok-target.ensures in
+    let t = c.in_ok-start.ensures in
     let lt : target n t.2.0 < l.start = omega (arith, t.0, t.2.2) in
     let e = pointer_here _ _ l.after l.start l.place l.size n t.2.0 _ l.invariant.so_far l.invariant.size h (omega arith) t.2.1 lt in
     record {
@@ -64,22 +64,22 @@ returns-in_err-end-clause-gives c =
     let total = fails_here _ _ l.after l.start l.place l.size _ _ l.invariant.so_far l.invariant.size (c.in_err-end.ensures l.start) in
     fails_with _ _ _ _ c.from_residual-in_err-end.ensures.1 total
 
-pub returns-in_err-target-clause-gives : goal.returns-in_err-target-clause-gives
-returns-in_err-target-clause-gives c =
+pub returns-in_err-start-clause-gives : goal.returns-in_err-start-clause-gives
+returns-in_err-start-clause-gives c =
     let l = c.labels in
-    let total = fails_here _ _ l.after l.start l.place l.size _ _ l.invariant.so_far l.invariant.size (c.in_err-target.ensures l.size) in
-    fails_with _ _ _ _ c.from_residual-in_err-target.ensures.1 total
+    let total = fails_here _ _ l.after l.start l.place l.size _ _ l.invariant.so_far l.invariant.size (c.in_err-start.ensures l.size) in
+    fails_with _ _ _ _ c.from_residual-in_err-start.ensures.1 total
 
 pub name_with_rest-requires : goal.name_with_rest-requires
 name_with_rest-requires c = (c.in-Some.ensures.rest c.args.bytes.now c.requires).is_wire
 
-pub returns-in_err-whole-clause-gives : goal.returns-in_err-whole-clause-gives
-returns-in_err-whole-clause-gives c =
+pub returns-in_err-name_with_rest-clause-gives : goal.returns-in_err-name_with_rest-clause-gives
+returns-in_err-name_with_rest-clause-gives c =
     let l = c.labels in
     let r = c.in-Some.ensures.rest c.args.bytes.now c.requires in
     let len = ap length r.is_wire.whole in
-    fails_unless _ c.in_err-whole.field-0.0 _ _ c.from_residual.ensures.1 (λ ne.
-    let e = c.in_err-whole.ensures ne in
+    fails_unless _ c.in_err-name_with_rest.field-0.0 _ _ c.from_residual.ensures.1 (λ ne.
+    let e = c.in_err-name_with_rest.ensures ne in
     let long = too_many l.size r.labels l.invariant.size (omega (arith, l.invariant.written, e.1, len, name_len-wire_form (cut c.in-Some.rest.now))) in
     fails_here _ _ l.after l.start l.place l.size _ _ l.invariant.so_far l.invariant.size long ∙ ap (λ (x : DecodeError). let y : LabelsRead = Err x in y) (sym e.0))
 
@@ -88,5 +88,5 @@ returns-in-Some-clause-gives c =
     let l = c.labels in
     let r = c.in-Some.ensures.rest c.args.bytes.now c.requires in
     let len = ap length r.is_wire.whole in
-    let e : c.in_ok-whole.whole.labels ≡ l.labels ++ cut c.in-Some.rest.now = ap (λ (d : DomainName). d.labels) c.in_ok-whole.ensures.0 in
-    rw e (known_here _ _ (cut c.in-Some.rest.now) l.after l.start l.place l.size c.in-Some.next r.next _ l.invariant.so_far c.in-Some.ensures.behind r.labels (omega (arith, l.invariant.written, c.in_ok-whole.ensures.1, len, name_len-wire_form (cut c.in-Some.rest.now))))
+    let e : c.in_ok-name_with_rest.field-0.labels ≡ l.labels ++ cut c.in-Some.rest.now = ap (λ (d : DomainName). d.labels) c.in_ok-name_with_rest.ensures.0 in
+    rw e (known_here _ _ (cut c.in-Some.rest.now) l.after l.start l.place l.size c.in-Some.next r.next _ l.invariant.so_far c.in-Some.ensures.behind r.labels (omega (arith, l.invariant.written, c.in_ok-name_with_rest.ensures.1, len, name_len-wire_form (cut c.in-Some.rest.now))))

@@ -1,5 +1,5 @@
 use Rattle.std.proofs.Common.{◌%◌, ap, ◌∙◌, FoldHasher}
-use Rattle.wire_writing.specs.serialize.writing.NameTable.{bucket}
+use Rattle.wire_writing.specs.representation.NameTable.{bucket}
 use Rattle.std.specs.Hash.FoldHasher.{write}
 use Rattle.wire_writing.proofs.serialize.writing.compression_table.bucket_of.Goals as goal
 

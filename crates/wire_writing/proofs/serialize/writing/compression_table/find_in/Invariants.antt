@@ -1,6 +1,6 @@
 use Rattle.std.proofs.Common.{◌≡◌, take, None}
-use Rattle.wire_writing.specs.serialize.writing.Noted.{first_place}
-use Rattle.wire_writing.specs.serialize.writing.NameTable.{pairs}
+use Rattle.wire_writing.specs.representation.Noted.{first_place}
+use Rattle.wire_writing.specs.representation.NameTable.{pairs}
 use Rattle.wire_writing.proofs.serialize.writing.compression_table.find_in.Given as goal
 
 abbrev pub invariant-loop-note : goal.invariant-loop-note

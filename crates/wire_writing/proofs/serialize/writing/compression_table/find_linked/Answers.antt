@@ -2,8 +2,8 @@ use Rattle.std.proofs.Common.{rules, arith, ◌≡◌, ◌≢◌, ◌<◌, ℕ, 
 use Rattle.std.specs.Str.{bytes_eq}
 use Rattle.std.proofs.lemmas.Bool.{false_from_ne_true}
 use Rattle.std.proofs.lemmas.Slice.Eq.{bytes_eq-Decides}
-use Rattle.wire_writing.specs.serialize.writing.NameTable.{pairs, buckets, IsLast}
-use Rattle.wire_writing.specs.serialize.writing.Noted.{first_place}
+use Rattle.wire_writing.specs.representation.NameTable.{pairs, buckets, IsLast}
+use Rattle.wire_writing.specs.representation.Noted.{first_place}
 use Rattle.wire_writing.specs.declared.serialize.writing.compression_table.Note.{Note}
 use Rattle.wire_writing.proofs.lemmas.serialize.writing.LinkedNotes.{IsIn, bucket_small, IsIn-first, IsIn-next, before_less, found_linked}
 use Rattle.wire_writing.proofs.serialize.writing.compression_table.find_linked.Goals as goal

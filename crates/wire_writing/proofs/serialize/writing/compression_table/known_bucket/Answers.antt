@@ -1,5 +1,5 @@
 use Rattle.std.proofs.Common.{rules, arith, ◌≡◌}
-use Rattle.wire_writing.specs.serialize.writing.NameTable.{bucket}
+use Rattle.wire_writing.specs.representation.NameTable.{bucket}
 use Rattle.wire_writing.proofs.lemmas.serialize.writing.LinkedNotes.{bucket_small}
 use Rattle.wire_writing.proofs.serialize.writing.compression_table.known_bucket.Goals as goal
 

@@ -1,5 +1,5 @@
 use Rattle.std.proofs.Common.{rules, arith, ◌≡◌, ◌++◌, ◌∷◌, [], take_all, get_or, sym, ap, ◌∙◌, subst}
-use Rattle.wire_writing.specs.serialize.writing.NameTable.{pairs, AreLinked}
+use Rattle.wire_writing.specs.representation.NameTable.{pairs, AreLinked}
 use Rattle.wire_writing.specs.declared.serialize.writing.compression_table.Note.{Note}
 use Rattle.wire_writing.proofs.lemmas.serialize.writing.LinkedNotes.{AreLinked-none}
 use Rattle.wire_writing.proofs.lemmas.serialize.writing.FirstPlaces.{pair, pairs-more}

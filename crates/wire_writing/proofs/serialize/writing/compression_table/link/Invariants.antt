@@ -1,5 +1,5 @@
 use Rattle.std.proofs.Common.{◌≡◌, take}
-use Rattle.wire_writing.specs.serialize.writing.NameTable.{pairs, AreLinked}
+use Rattle.wire_writing.specs.representation.NameTable.{pairs, AreLinked}
 use Rattle.wire_writing.proofs.serialize.writing.compression_table.link.Given as goal
 
 abbrev pub invariant-loop-note : goal.invariant-loop-note

@@ -1,5 +1,5 @@
 use Rattle.std.proofs.Common.{rules, arith, ◌∙◌, ◌≡◌, ◌+◌, ◌++◌, ◌∷◌, [], length, get_or, set, sym, ap, subst, length-append}
-use Rattle.wire_writing.specs.serialize.writing.NameTable.{bucket, AreLinked}
+use Rattle.wire_writing.specs.representation.NameTable.{bucket, AreLinked}
 use Rattle.wire_writing.specs.declared.serialize.writing.compression_table.Note.{Note}
 use Rattle.wire_writing.proofs.lemmas.serialize.writing.LinkedNotes.{bucket_small, AreLinked-push}
 use Rattle.wire_writing.proofs.serialize.writing.compression_table.push_linked.Goals as goal

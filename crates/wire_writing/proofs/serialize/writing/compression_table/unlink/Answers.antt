@@ -1,6 +1,6 @@
 use Rattle.std.proofs.Common.{rules, ◌≡◌, ◌++◌, ◌∷◌, [], ◌≤◌, length, take, take_all, set, refl, sym, subst, ap, ◌∙◌, arith}
 use Rattle.std.proofs.lemmas.List.{take-append-le, length-append}
-use Rattle.wire_writing.specs.serialize.writing.NameTable.{AreLinked}
+use Rattle.wire_writing.specs.representation.NameTable.{AreLinked}
 use Rattle.wire_writing.proofs.lemmas.serialize.writing.LinkedNotes.{bucket_small, AreLinked-pop}
 use Rattle.wire_writing.proofs.serialize.writing.compression_table.unlink.Goals as goal
 

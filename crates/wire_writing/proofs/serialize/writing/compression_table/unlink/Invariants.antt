@@ -1,5 +1,5 @@
 use Rattle.std.proofs.Common.{◌≡◌, take, length}
-use Rattle.wire_writing.specs.serialize.writing.NameTable.{AreLinked}
+use Rattle.wire_writing.specs.representation.NameTable.{AreLinked}
 use Rattle.wire_writing.proofs.serialize.writing.compression_table.unlink.Given as goal
 
 abbrev pub invariant-loop-notes : goal.invariant-loop-notes

@@ -5,8 +5,8 @@ use Rattle.std.specs.Bool.{if◌then◌else◌}
 use Rattle.std.specs.Result.{is_ok, OnOk}
 use Rattle.wire_messages.specs.serialize.layout.FieldRanges.{IsInRange}
 use Rattle.wire_messages.specs.serialize.writing.FullForm.{data_octets, HasNames}
-use Rattle.wire_writing.specs.serialize.writing.Noted.{Notes}
-use Rattle.wire_writing.specs.serialize.writing.WritingByNotes.{WritesData}
+use Rattle.wire_writing.specs.representation.Noted.{Notes}
+use Rattle.wire_writing.specs.representation.WritingByNotes.{WritesData}
 use Rattle.wire_messages.specs.declared.rr.rdata.RData.{RData}
 use Rattle.wire_messages.specs.declared.rr.rdata.RData.TheVariants as rdata
 use Rattle.wire_messages.proofs.lemmas.serialize.layout.Ranges.{ipv6_in_range}

@@ -1,5 +1,5 @@
 use Rattle.std.proofs.Common.{◌≡◌, false, None, refl, rules}
-use Rattle.wire_writing.specs.serialize.writing.Endings.{is_cut_by}
+use Rattle.wire_writing.specs.representation.Endings.{is_cut_by}
 use Rattle.wire_writing.proofs.lemmas.serialize.writing.RecordLists.{adds_run, adds_stuck, fault_is}
 use Rattle.wire_writing.proofs.serialize.writing.list_encoder.write_list.Goals as goal
 

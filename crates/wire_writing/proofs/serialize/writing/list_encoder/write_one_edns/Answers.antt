@@ -1,5 +1,5 @@
 use Rattle.std.proofs.Common.{◌≡◌, ◌∷◌, [], false, None, refl, rules}
-use Rattle.wire_writing.specs.serialize.writing.Endings.{is_cut_by}
+use Rattle.wire_writing.specs.representation.Endings.{is_cut_by}
 use Rattle.wire_messages.specs.serialize.writing.Reply.{opt_record}
 use Rattle.wire_writing.proofs.lemmas.serialize.writing.RecordLists.{adds_one, adds_stuck, fault_is, one_put}
 use Rattle.wire_writing.proofs.serialize.writing.list_encoder.write_one_edns.Goals as goal

@@ -1,5 +1,5 @@
 use Rattle.std.proofs.Common.{arith, rules, refl}
-use Rattle.wire_writing.specs.serialize.writing.Endings.{OwnerNoted}
+use Rattle.wire_writing.specs.representation.Endings.{OwnerNoted}
 use Rattle.wire_writing.specs.serialize.writing.Writing.{Puts}
 use Rattle.wire_writing.proofs.lemmas.serialize.writing.NotedRuns.{run_put, run_skips}
 use Rattle.wire_writing.proofs.lemmas.serialize.writing.RecordLists.{nows, nows-more, list_put, list_skips, Puts-longer}

@@ -1,7 +1,7 @@
 use Rattle.std.proofs.Common.{◌+◌, ◌≤◌, length, take}
-use Rattle.wire_writing.specs.serialize.writing.Endings.{seen_ending}
-use Rattle.wire_writing.specs.serialize.writing.Noted.{AreNotes}
-use Rattle.wire_writing.specs.serialize.writing.Endings.{NotedRun}
+use Rattle.wire_writing.specs.representation.Endings.{seen_ending}
+use Rattle.wire_writing.specs.representation.Noted.{AreNotes}
+use Rattle.wire_writing.specs.representation.Endings.{NotedRun}
 use Rattle.wire_writing.specs.serialize.writing.Writing.{ListWritten}
 use Rattle.wire_writing.proofs.lemmas.serialize.writing.RecordLists.{nows}
 use Rattle.wire_writing.proofs.serialize.writing.list_encoder.write_records.Given as goal

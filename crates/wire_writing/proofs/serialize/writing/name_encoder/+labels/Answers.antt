@@ -1,6 +1,6 @@
 use Rattle.std.proofs.Common.{rules, arith, ◌≡◌, ◌∙◌, ℕ, List, ◌+◌, ◌≤◌, ◌++◌, length, None, Some, sym, ap, subst, take, drop, get_or, length-append, length-take}
 use Rattle.wire_names.specs.rr.domain.DomainName.{IsWire}
-use Rattle.wire_writing.specs.serialize.writing.Noted.{Notes, first_place, WritesLabels, Compresses}
+use Rattle.wire_writing.specs.representation.Noted.{Notes, first_place, WritesLabels, Compresses}
 use Rattle.wire_writing.proofs.lemmas.serialize.writing.NameSteps.{Rest, rest_of, writes_pointer, writes_label, writes_noted, still_fresh, compresses_pointer, compresses_noted}
 use Rattle.wire_writing.proofs.serialize.writing.name_encoder.+labels.Goals as goal
 use Rattle.wire_writing.proofs.serialize.writing.name_encoder.+labels.Goals.{write_new_labels-In_ok-write_front, write_new_labels-In_ok-note_written, write_new_labels-then-not-branch+in_ok-write_labels, write_new_labels-else-not-branch}

@@ -1,6 +1,6 @@
 use Rattle.std.proofs.Common.{◌+◌, ◌≤◌, length, rules}
 use Rattle.wire_names.specs.rr.domain.DomainName.{name_len}
-use Rattle.wire_writing.specs.serialize.writing.WrittenParts.{record_of}
+use Rattle.wire_writing.specs.representation.WrittenParts.{record_of}
 use Rattle.wire_writing.proofs.lemmas.serialize.writing.FullForms.{put_parts}
 use Rattle.wire_writing.proofs.serialize.writing.record_encoder.write_parts.Goals as goal
 

@@ -2,7 +2,7 @@ use Rattle.std.proofs.Common.{◌↔◌, ◌≡◌, ◌∙◌, ◌<◌, ◌-◌,
 use Rattle.std.specs.Bool.{IsTrue}
 use Rattle.std.proofs.lemmas.Bool.{false≢true}
 use Rattle.wire_names.specs.rr.domain.DomainName.{DomainName}
-use Rattle.wire_names.specs.rr.domain.NameBytes.{wire_bytes}
+use Rattle.wire_names.specs.representation.NameBytes.{wire_bytes}
 use Rattle.wire_names.specs.rr.domain.NameOrder.{Encloses}
 use Rattle.wire_names.proofs.lemmas.rr.domain.OrderKeys.{FirstOff, first_off, parent_encloses}
 use Rattle.wire_names.proofs.rr.domain.lower_name.LowerName.has_parent_above.Goals as goal

@@ -1,6 +1,6 @@
 use Rattle.std.proofs.Common.{take, drop, ap, sym, subst, ◌∙◌}
 use Rattle.wire_names.specs.rr.domain.DomainName.{DomainName}
-use Rattle.wire_names.specs.rr.domain.NameBytes.{wire_bytes}
+use Rattle.wire_names.specs.representation.NameBytes.{wire_bytes}
 use Rattle.wire_names.specs.rr.domain.NameOrder.{IsSharedEnd}
 use Rattle.wire_names.proofs.lemmas.rr.domain.SharedEnds.{SharedLabels, shared_labels, shared_lower, shared_end}
 use Rattle.wire_names.proofs.rr.domain.lower_name.LowerName.keep_shared_end.Goals as goal

@@ -1,6 +1,6 @@
 use Rattle.std.proofs.Common.{ℕ, List, length, ap, ◌∙◌}
 use Rattle.wire_names.specs.rr.domain.DomainName.{DomainName}
-use Rattle.wire_names.specs.rr.domain.OrderKey.{order_key, order_word, word_behind}
+use Rattle.wire_names.specs.representation.OrderKey.{order_key, order_word, word_behind}
 use Rattle.wire_names.proofs.rr.domain.lower_name.LowerName.order_word.Goals as goal
 
 pub returns-clause-is : goal.returns-clause-is

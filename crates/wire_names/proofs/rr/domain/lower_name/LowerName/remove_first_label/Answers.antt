@@ -1,9 +1,9 @@
 use Rattle.std.proofs.Common.{◌≡◌, ◌∙◌, ◌-◌, ℕ, List, length, take, drop, map, ap, sym, arith, rules}
 use Rattle.std.proofs.lemmas.List.{drop-map}
 use Rattle.wire_names.specs.rr.domain.DomainName.{DomainName}
-use Rattle.wire_names.specs.rr.domain.NameBytes.{wire_bytes}
+use Rattle.wire_names.specs.representation.NameBytes.{wire_bytes}
 use Rattle.wire_names.specs.rr.domain.NameOrder.{lower_label}
-use Rattle.wire_names.specs.rr.domain.OrderKey.{order_key}
+use Rattle.wire_names.specs.representation.OrderKey.{order_key}
 use Rattle.wire_names.proofs.lemmas.rr.domain.OrderKeys.{FirstOff, first_off}
 use Rattle.wire_names.proofs.rr.domain.lower_name.LowerName.remove_first_label.Goals as goal
 

@@ -1,8 +1,8 @@
 use Rattle.std.proofs.Common.{rules, ◌≡◌, ◌∙◌, ℕ, List, ap, sym}
 use Rattle.wire_names.specs.rr.domain.DomainName.{DomainName, cut}
-use Rattle.wire_names.specs.rr.domain.NameBytes.{wire_bytes}
+use Rattle.wire_names.specs.representation.NameBytes.{wire_bytes}
 use Rattle.wire_names.specs.rr.domain.NameOrder.{lower_labels, lower_name}
-use Rattle.wire_names.specs.rr.domain.OrderKey.{order_key}
+use Rattle.wire_names.specs.representation.OrderKey.{order_key}
 use Rattle.wire_names.proofs.lemmas.rr.domain.WireForm.{cut-wire}
 use Rattle.wire_names.proofs.lemmas.rr.domain.SameNames.{lower_labels-twice}
 use Rattle.wire_names.proofs.rr.domain.lower_name.LowerName.set_short.Goals as goal

@@ -3,7 +3,7 @@ use Rattle.std.specs.declared.cmp.Ordering.{Ordering}
 use Rattle.std.specs.Ordering.{nat_cmp, bool_cmp, ordering_then}
 use Rattle.std.specs.Cmp.Lexicographic.{slice_cmp}
 use Rattle.wire_names.specs.rr.domain.DomainName.{DomainName}
-use Rattle.wire_names.specs.rr.domain.NameBytes.{wire_bytes}
+use Rattle.wire_names.specs.representation.NameBytes.{wire_bytes}
 use Rattle.wire_names.specs.rr.domain.NameOrder.{label_cmp, name_cmp}
 use Rattle.wire_names.proofs.lemmas.rr.domain.OrderKeys.{keys_of_names}
 use Rattle.wire_names.proofs.lemmas.rr.domain.PaddedBytes.{decided}

@@ -1,6 +1,6 @@
 use Rattle.std.proofs.Common.{◌≡◌, ◌-◌, ◌∙◌, ℕ, List, length, drop, ap, sym, arith}
 use Rattle.wire_names.specs.rr.domain.DomainName.{DomainName, wire_form, cut}
-use Rattle.wire_names.specs.rr.domain.NameBytes.{wire_bytes}
+use Rattle.wire_names.specs.representation.NameBytes.{wire_bytes}
 use Rattle.wire_names.proofs.lemmas.rr.domain.FirstLabel.{end_fits, end_wire, end_labels}
 use Rattle.wire_names.proofs.rr.domain.name.Name.keep_last.Goals as goal
 

@@ -1,6 +1,6 @@
 use Rattle.std.proofs.Common.{◌≡◌, ◌+◌, ◌<◌, ◌∙◌, ℕ, List, length, get_or, drop, ap, rules}
 use Rattle.wire_names.specs.rr.domain.DomainName.{DomainName}
-use Rattle.wire_names.specs.rr.domain.NameBytes.{wire_bytes}
+use Rattle.wire_names.specs.representation.NameBytes.{wire_bytes}
 use Rattle.wire_names.proofs.lemmas.rr.domain.FirstLabel.{rest_wire, rest_labels}
 use Rattle.wire_names.proofs.rr.domain.name.Name.remove_first_label.Goals as goal
 

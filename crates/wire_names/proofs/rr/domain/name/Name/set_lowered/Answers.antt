@@ -1,7 +1,7 @@
 use Rattle.std.proofs.Common.{rules, ◌≡◌, ◌∙◌, ap, map, List, ℕ}
 use Rattle.std.specs.Char.{to_ascii_lowercase}
 use Rattle.wire_names.specs.rr.domain.DomainName.{DomainName}
-use Rattle.wire_names.specs.rr.domain.NameBytes.{wire_bytes}
+use Rattle.wire_names.specs.representation.NameBytes.{wire_bytes}
 use Rattle.wire_names.specs.rr.domain.NameOrder.{lower_name}
 use Rattle.wire_names.proofs.lemmas.rr.domain.Ends.{lowered_wire}
 use Rattle.wire_names.proofs.rr.domain.name.Name.set_lowered.Goals as goal

@@ -1,5 +1,5 @@
 use Rattle.std.proofs.Common.{ap, arith, ◌∙◌}
-use Rattle.wire_names.specs.rr.domain.OrderKey.{word_behind}
+use Rattle.wire_names.specs.representation.OrderKey.{word_behind}
 use Rattle.wire_names.proofs.lemmas.rr.domain.OrderWords.{room_word}
 use Rattle.wire_names.proofs.rr.domain.wire.ShortBytes.word_from.Goals as goal
 

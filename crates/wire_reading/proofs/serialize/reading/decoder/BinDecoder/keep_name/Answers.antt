@@ -1,7 +1,7 @@
 use Rattle.std.proofs.Common.{◌≡◌, List, Option, Some, None, ℕ, sym, ap, subst, ◌∙◌}
 use Rattle.std.specs.Prelude.{IfSome}
 use Rattle.wire_messages.specs.serialize.reading.Cursor.{Cursor}
-use Rattle.wire_reading.specs.serialize.reading.KnownNames.{IsRest}
+use Rattle.wire_reading.specs.representation.KnownNames.{IsRest}
 use Rattle.wire_reading.proofs.lemmas.serialize.reading.KnownRests.{rest_of_name}
 use Rattle.wire_reading.proofs.serialize.reading.decoder.BinDecoder.keep_name.Goals as goal
 use Rattle.wire_reading.proofs.serialize.reading.decoder.BinDecoder.keep_name.Goals.{then-is_none+in_ok-new+in-Some-1, then-is_none+in_ok-new+in-None-1, else-is_none}

@@ -1,5 +1,5 @@
 use Rattle.std.proofs.Common.{List, ℕ, sym, subst, ◌∙◌}
-use Rattle.wire_reading.specs.serialize.reading.KnownNames.{AreRests}
+use Rattle.wire_reading.specs.representation.KnownNames.{AreRests}
 use Rattle.wire_reading.proofs.lemmas.serialize.reading.KnownRests.{still_holds}
 use Rattle.wire_reading.proofs.serialize.reading.known_names.KnownNames.keep.Goals as goal
 

@@ -1,8 +1,8 @@
 use Rattle.std.proofs.Common.{arith, ◌≡◌, ◌^◌, ◌+◌, ◌<◌, ◌++◌, [], length, Some, sym, subst, ◌∙◌}
 use Rattle.wire_names.specs.rr.domain.DomainName.{cut, wire_form}
 use Rattle.wire_names.proofs.lemmas.rr.domain.WireForm.{wire_short}
-use Rattle.wire_writing.specs.serialize.writing.NameTable.{pairs, IsTable}
-use Rattle.wire_writing.specs.serialize.writing.QuestionNames.{ends_from}
+use Rattle.wire_writing.specs.representation.NameTable.{pairs, IsTable}
+use Rattle.wire_writing.specs.representation.QuestionNames.{ends_from}
 use Rattle.wire_writing.specs.declared.serialize.writing.compression_table.KeptName.{KeptName}
 use Rattle.wire_writing.proofs.lemmas.serialize.writing.QuestionEnds.{ends-in_range, whole_noted}
 use Rattle.wire_writing.proofs.lemmas.serialize.writing.StoredNotes.{begun}

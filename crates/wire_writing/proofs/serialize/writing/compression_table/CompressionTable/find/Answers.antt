@@ -1,7 +1,7 @@
 use Rattle.std.proofs.Common.{rules, ◌≡◌, ◌++◌, length, None, Some, IfSome, sym, subst, ap, ◌∙◌}
 use Rattle.std.proofs.lemmas.List.{nil_from_length}
-use Rattle.wire_writing.specs.serialize.writing.Noted.{Notes, IsPlace, first_place}
-use Rattle.wire_writing.specs.serialize.writing.NameTable.{pairs}
+use Rattle.wire_writing.specs.representation.Noted.{Notes, IsPlace, first_place}
+use Rattle.wire_writing.specs.representation.NameTable.{pairs}
 use Rattle.wire_writing.proofs.lemmas.serialize.writing.FirstPlaces.{first_place-behind, first_place-front, first_place-in_range}
 use Rattle.wire_writing.proofs.lemmas.serialize.writing.StoredNotes.{only_first}
 use Rattle.wire_writing.proofs.serialize.writing.compression_table.CompressionTable.find.Goals as goal

@@ -1,6 +1,6 @@
 use Rattle.std.proofs.Common.{rules, ◌≡◌, ◌++◌, Some}
-use Rattle.wire_writing.specs.serialize.writing.NameTable.{pairs}
-use Rattle.wire_writing.specs.serialize.writing.Noted.{first_place}
+use Rattle.wire_writing.specs.representation.NameTable.{pairs}
+use Rattle.wire_writing.specs.representation.Noted.{first_place}
 use Rattle.wire_writing.proofs.lemmas.serialize.writing.FirstPlaces.{place_in_range}
 use Rattle.wire_writing.proofs.serialize.writing.compression_table.CompressionTable.known_place.Goals as goal
 

@@ -1,7 +1,7 @@
 use Rattle.std.proofs.Common.{rules, ◌≡◌, ◌≢◌, ◌<◌, arith, ◌++◌, length, drop, [], None, sym, subst, ap, ◌∙◌}
 use Rattle.std.proofs.lemmas.List.{nil_from_length}
-use Rattle.wire_writing.specs.serialize.writing.Noted.{first_place}
-use Rattle.wire_writing.specs.serialize.writing.NameTable.{pairs, IsTable, IsStored}
+use Rattle.wire_writing.specs.representation.Noted.{first_place}
+use Rattle.wire_writing.specs.representation.NameTable.{pairs, IsTable, IsStored}
 use Rattle.wire_writing.specs.declared.serialize.writing.compression_table.Note.{Note}
 use Rattle.wire_writing.proofs.lemmas.serialize.writing.StoredNotes.{linked-push, first-push}
 use Rattle.wire_writing.proofs.lemmas.serialize.writing.LinkedNotes.{front_whole}

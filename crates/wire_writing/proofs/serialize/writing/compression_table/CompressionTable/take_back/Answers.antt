@@ -1,6 +1,6 @@
 use Rattle.std.proofs.Common.{rules, ◌≡◌, ◌≢◌, arith, ◌-◌, ◌++◌, [], None, length, take, drop, sym, subst, ap, ◌∙◌}
 use Rattle.std.proofs.lemmas.List.{nil_from_length}
-use Rattle.wire_writing.specs.serialize.writing.NameTable.{IsTable, IsStored}
+use Rattle.wire_writing.specs.representation.NameTable.{IsTable, IsStored}
 use Rattle.wire_writing.proofs.lemmas.serialize.writing.StoredNotes.{first-view, first-take, linked-view, linked-take}
 use Rattle.wire_writing.proofs.lemmas.serialize.writing.LinkedNotes.{front_whole}
 use Rattle.wire_writing.proofs.serialize.writing.compression_table.CompressionTable.take_back.Goals as goal

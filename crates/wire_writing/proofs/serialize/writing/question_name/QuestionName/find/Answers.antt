@@ -1,6 +1,6 @@
 use Rattle.std.proofs.Common.{rules, arith, ◌≡◌, ◌≢◌, ◌-◌, length, take, drop, take_all, length-drop, ap, sym, subst, ◌∙◌}
 use Rattle.wire_names.specs.rr.domain.DomainName.{cut}
-use Rattle.wire_writing.specs.serialize.writing.Noted.{first_place}
+use Rattle.wire_writing.specs.representation.Noted.{first_place}
 use Rattle.wire_writing.proofs.lemmas.serialize.writing.QuestionEnds.{no_end}
 use Rattle.wire_writing.proofs.serialize.writing.question_name.QuestionName.find.Goals as goal
 

@@ -1,7 +1,7 @@
 use Rattle.std.proofs.Common.{arith, length, take, ap, ◌∙◌, ◌≡◌, length-take}
 use Rattle.wire_names.specs.rr.domain.DomainName.{cut}
 use Rattle.wire_names.proofs.lemmas.rr.domain.WireForm.{few_labels}
-use Rattle.wire_writing.specs.serialize.writing.QuestionNames.{ends_from}
+use Rattle.wire_writing.specs.representation.QuestionNames.{ends_from}
 use Rattle.wire_writing.proofs.lemmas.serialize.writing.QuestionEnds.{ends-length}
 use Rattle.wire_writing.proofs.serialize.writing.question_name.QuestionName.len.Goals as goal
 

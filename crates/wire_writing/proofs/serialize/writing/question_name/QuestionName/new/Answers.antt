@@ -1,6 +1,6 @@
 use Rattle.std.proofs.Common.{arith, take_all}
 use Rattle.wire_names.specs.rr.domain.DomainName.{cut}
-use Rattle.wire_writing.specs.serialize.writing.QuestionNames.{ends_from}
+use Rattle.wire_writing.specs.representation.QuestionNames.{ends_from}
 use Rattle.wire_writing.proofs.lemmas.serialize.writing.QuestionEnds.{ends-length}
 use Rattle.wire_writing.proofs.serialize.writing.question_name.QuestionName.new.Goals as goal
 

@@ -1,0 +1,4 @@
+-- Transfers in runs of records.
+pub mod Runs
+pub mod TransferReplies
+pub mod TransfersFromPlace

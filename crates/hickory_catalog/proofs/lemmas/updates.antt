@@ -1,0 +1,2 @@
+-- Zones that were updated.
+pub mod UpdatedZones

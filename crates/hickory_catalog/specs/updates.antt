@@ -1,0 +1,2 @@
+-- Dynamic updates.
+pub mod Updates

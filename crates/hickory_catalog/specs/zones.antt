@@ -1,0 +1,3 @@
+-- Zones by name, and the one that answers for a name.
+pub mod Find
+pub mod Zones

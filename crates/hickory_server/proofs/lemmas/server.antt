@@ -1,0 +1,9 @@
+-- What becomes of messages.
+pub mod BytesServed
+pub mod DecodedOutcomes
+pub mod Isolation
+pub mod Refusals
+pub mod Results
+pub mod RuleLaws
+pub mod Runs
+pub mod Sent

@@ -1,0 +1,3 @@
+-- What zones reply and keep.
+pub mod KeptZones
+pub mod MadeReplies

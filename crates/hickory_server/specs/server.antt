@@ -1,0 +1,9 @@
+-- What becomes of messages, by the rules of a server.
+pub mod Cut
+pub mod DecodedOutcomes
+pub mod Isolation
+pub mod Ruling
+pub mod ServedBy
+pub mod ServedLaws
+pub mod Serving
+pub mod Written

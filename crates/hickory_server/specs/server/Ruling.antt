@@ -1,0 +1,77 @@
+-- The rules of a server: what it makes of a message, and of a request, before its zones are asked.
+use Rattle.std.specs.Prelude.{◌≡◌, ◌≢◌, ◌≤◌, ◌⊎◌, ◌∷◌, [], ℕ, true, None, List, get_or, max}
+use Rattle.std.specs.Net.Socket.{socket_ip}
+use Rattle.std.specs.declared.net.SocketAddr.{SocketAddr}
+use Rattle.wire_messages.specs.Numbers.{class_any, class_in, code_refused, opcode_query, type_axfr, type_ixfr}
+use Rattle.wire_messages.specs.op.Metadata.{response_to}
+use Rattle.wire_messages.specs.serialize.writing.Reply.{Reply}
+use Rattle.wire_messages.specs.declared.op.header.MessageType.TheVariants as message_type
+use Rattle.wire_messages.specs.declared.op.query.Query.{Query}
+use Rattle.wire_messages.specs.declared.protocol.Protocol.TheVariants.{Udp}
+use Rattle.access_control.specs.Access.{IsAllowed}
+use Rattle.hickory_base.specs.requests.Questions.{edns_version}
+use Rattle.hickory_base.specs.requests.Requests.{ReceivedRequest}
+use Rattle.hickory_base.specs.declared.requests.message_request.MessageRequest.{MessageRequest}
+use Rattle.hickory_catalog.specs.replies.Replies.{bare_contents, error_reply, plain_reply}
+use Rattle.hickory_catalog.specs.replies.ReplyEdns.{reply_edns}
+use Rattle.hickory_catalog.specs.requests.Server.{Server}
+use Rattle.hickory_server.specs.declared.server.rules.Rules.{Rules}
+use Rattle.hickory_server.specs.declared.server.rules.Ruling.{Ruling}
+use Rattle.hickory_server.specs.declared.server.rules.Ruling.TheVariants.{Pass, Refuse, Transfer, Truncate}
+
+-- The message is itself a response: QR is set, the highest bit of its third byte (RFC 1035 section 4.1.1).
+abbrev pub IsResponse : List ℕ → Type 0
+IsResponse bytes = 128 ≤ get_or bytes 2 0
+
+-- how many bytes a reply over UDP has at most, whatever the client takes: as set, and at least 512 (RFC 1035 section
+-- 4.2.1)
+abbrev pub udp_limit : Rules → ℕ
+udp_limit rules = max rules.max_udp 512
+
+-- The message is a query of this one question, in the version of EDNS that is known (RFC 1035 section 4.1.1, RFC 6891
+-- section 6.1.3).
+pub record IsQuery (message : MessageRequest) (query : Query) : Type 0 where
+  pub version : edns_version message.edns ≡ 0
+  pub asks : message.metadata.message_type ≡ message_type.Query
+  pub op_code : message.metadata.op_code ≡ opcode_query
+  pub question : message.queries.queries ≡ query ∷ []
+
+-- It asks in class IN or ANY (RFC 1035 sections 3.2.4 and 3.2.5).
+abbrev pub IsOfServedClass : Query → Type 0
+IsOfServedClass query = (query.query_class ≡ class_in) ⊎ (query.query_class ≡ class_any)
+
+-- It asks for a whole zone, by AXFR (RFC 5936 section 2), or for what changed in it, by IXFR (RFC 1995 section 2).
+abbrev pub IsTransfer : Query → Type 0
+IsTransfer query = (query.query_type ≡ type_axfr) ⊎ (query.query_type ≡ type_ixfr)
+
+-- It asks for what changed in a zone.
+abbrev pub IsIncremental : Query → Type 0
+IsIncremental query = query.query_type ≡ type_ixfr
+
+-- This address may use the server.
+abbrev pub MayUse : Rules → SocketAddr → Type 0
+MayUse rules source = IsAllowed rules.access.deny rules.access.allow (socket_ip source)
+
+-- Transfers may go to the address that the request came from.
+abbrev pub MayTransfer : Rules → ReceivedRequest → Type 0
+MayTransfer rules request = IsAllowed rules.transfers.deny rules.transfers.allow (socket_ip request.source)
+
+-- What the rules make of a request. A query of a class that is not served, and a transfer to an address that may have
+-- none, is refused; a query for what changed in a zone is answered by what the zone's handlers give as a transfer, over
+-- UDP too (RFC 1995 sections 2 and 4); one for a whole zone over UDP is truncated, as it is for TCP (RFC 5936 section
+-- 4.2); all else passes.
+abbrev pub IsRuling : Rules → ReceivedRequest → Ruling → Type 0
+IsRuling rules request Refuse = (query : Query) × IsQuery request.message query × (¬ (IsOfServedClass query) ⊎ (IsTransfer query × ¬ (MayTransfer rules request)))
+IsRuling rules request Truncate = (query : Query) × IsQuery request.message query × IsOfServedClass query × IsTransfer query × ¬ (IsIncremental query) × MayTransfer rules request
+    × (request.protocol ≡ Udp)
+IsRuling rules request Transfer = (query : Query) × IsQuery request.message query × IsOfServedClass query × IsIncremental query × MayTransfer rules request
+IsRuling rules request Pass = (query : Query) → IsQuery request.message query
+    → IsOfServedClass query × ¬ (IsIncremental query) × (IsTransfer query → MayTransfer rules request × (request.protocol ≢ Udp))
+
+-- the reply to what is refused: Refused, which is 5, and no records
+abbrev pub refusal : {H : Type 0} → Server H → ReceivedRequest → Reply
+refusal server request = error_reply request.message (reply_edns server.identifier request.message.edns) code_refused
+
+-- the reply to what is truncated: TC, and no records
+abbrev pub truncation : ReceivedRequest → Reply
+truncation request = plain_reply request.message (reply_edns None request.message.edns) (bare_contents (record (response_to request.message.metadata) { truncation = true }))

@@ -1,0 +1,88 @@
+-- What becomes of a message, by the rules of a server.
+use Rattle.std.specs.Prelude.{◌≡◌, ◌≤◌, ◌<◌, ◌∷◌, [], ℕ, List, length}
+use Rattle.std.specs.List.{AllZip}
+use Rattle.std.specs.declared.net.SocketAddr.{SocketAddr}
+use Rattle.wire_names.specs.rr.domain.DomainName.{DomainName}
+use Rattle.wire_names.specs.declared.error.ProtoError.{ProtoError}
+use Rattle.wire_messages.specs.serialize.writing.Reply.{Reply}
+use Rattle.wire_messages.specs.declared.protocol.Protocol.{Protocol}
+use Rattle.wire_messages.specs.declared.protocol.Protocol.TheVariants.{Udp}
+use Rattle.hickory_base.specs.requests.RequestReading.{IsFaultOf}
+use Rattle.hickory_base.specs.requests.Requests.{ReceivedRequest}
+use Rattle.hickory_base.specs.responses.EncodingSinks.{IsEncodingOf}
+use Rattle.hickory_catalog.specs.replies.ReplyEdns.{reply_edns}
+use Rattle.hickory_catalog.specs.requests.Requests.{RequestAnswered}
+use Rattle.hickory_catalog.specs.requests.Server.{Server}
+use Rattle.hickory_catalog.specs.transfers.WholeTransfers.{TransferReplies}
+use Rattle.hickory_server.specs.server.Cut.{IsCut}
+use Rattle.hickory_server.specs.server.Ruling.{IsResponse, IsRuling, MayUse, refusal, truncation, udp_limit}
+use Rattle.hickory_server.specs.server.Serving.{IsRequestOf, LeavesUnserved}
+use Rattle.hickory_server.specs.declared.server.answer.Answer.{Answer}
+use Rattle.hickory_server.specs.declared.server.answer.Answer.TheVariants.{Denied, Replies, Response, Unreadable}
+use Rattle.hickory_server.specs.declared.server.rules.Rules.{Rules}
+use Rattle.hickory_server.specs.declared.server.rules.Ruling.TheVariants.{Pass, Refuse, Transfer, Truncate}
+use Rattle.hickory_server.specs.declared.server.serve.Incoming.{Incoming}
+use Rattle.hickory_server.specs.declared.server.serve.ServeError.{ServeError}
+
+-- What is sent of a reply over UDP: itself where it is within the limit, and else what it is cut to.
+abbrev pub IsBounded : ℕ → List ℕ → List ℕ → Type 0
+IsBounded limit reply bytes = (length bytes ≤ limit) × (length reply ≤ limit → bytes ≡ reply) × (limit < length reply → IsCut limit reply bytes)
+
+-- What is sent of replies: over UDP each within the limit, and over a stream each as it is.
+abbrev pub AreSent : Protocol → ℕ → List (List ℕ) → List (List ℕ) → Type 0
+AreSent Udp limit replies sent = AllZip (IsBounded limit) replies sent
+AreSent stream limit replies sent = sent ≡ replies
+
+-- The replies to a request at the limit of its transport, by the rules, at this moment, and the zones after it.
+pub data RequestServed {H : Type 0} (rules : Rules) (server : Server H) (request : ReceivedRequest) (now : ℕ) (encoded : List (List ℕ)) (zones : List (DomainName × List H)) : Type 0 where
+  refused : {bytes : List ℕ} → IsRuling rules request Refuse → IsEncodingOf request.protocol (refusal server request) bytes
+      → encoded ≡ bytes ∷ [] → zones ≡ server.zones → RequestServed rules server request now encoded zones
+  truncated : {bytes : List ℕ} → IsRuling rules request Truncate → IsEncodingOf request.protocol (truncation request) bytes
+      → encoded ≡ bytes ∷ [] → zones ≡ server.zones → RequestServed rules server request now encoded zones
+  transferred : {replies : List Reply} → IsRuling rules request Transfer
+      → TransferReplies server request (reply_edns server.identifier request.message.edns) now replies
+      → AllZip (IsEncodingOf request.protocol) replies encoded → zones ≡ server.zones → RequestServed rules server request now encoded zones
+  passed : {replies : List Reply} → IsRuling rules request Pass → RequestAnswered server request now replies zones
+      → AllZip (IsEncodingOf request.protocol) replies encoded → RequestServed rules server request now encoded zones
+
+-- What becomes of a message, by the rules, and the zones after it: one of these, and no two.
+pub data ServedBy {H : Type 0} (rules : Rules) (server : Server H) (message : Incoming) (answer : Answer) (zones : List (DomainName × List H)) : Type 0 where
+  -- Its address may not use the server.
+  denied : ¬ (MayUse rules message.src) → answer ≡ Denied → zones ≡ server.zones → ServedBy rules server message answer zones
+  -- It is shorter than a header, which has twelve bytes.
+  short : MayUse rules message.src → length message.bytes.items < 12 → answer ≡ Unreadable → zones ≡ server.zones → ServedBy rules server message answer zones
+  -- It is itself a response, and gets none: two servers would answer each other without end.
+  response : MayUse rules message.src → 12 ≤ length message.bytes.items → IsResponse message.bytes.items → answer ≡ Response → zones ≡ server.zones
+      → ServedBy rules server message answer zones
+  -- Its bytes begin with no message.
+  unreadable : {e : ProtoError} → MayUse rules message.src → 12 ≤ length message.bytes.items → ¬ (IsResponse message.bytes.items)
+      → IsFaultOf message.bytes.items e → answer ≡ Unreadable → zones ≡ server.zones → ServedBy rules server message answer zones
+  -- It is a request. Its replies are sent, over UDP within the limit of the server.
+  request : {request : ReceivedRequest} {encoded sent : List (List ℕ)} → MayUse rules message.src
+      → 12 ≤ length message.bytes.items → ¬ (IsResponse message.bytes.items) → IsRequestOf message request → RequestServed rules server request message.now encoded zones
+      → AreSent message.protocol (udp_limit rules) encoded sent → answer ≡ Replies sent → ServedBy rules server message answer zones
+
+-- A message has these bytes, and came from there at that moment.
+pub record IsMessageOf (bytes : List ℕ) (source : SocketAddr) (protocol : Protocol) (now : ℕ) (message : Incoming) : Type 0 where
+  pub bytes_are : message.bytes.items ≡ bytes
+  pub source_is : message.src ≡ source
+  pub protocol_is : message.protocol ≡ protocol
+  pub now_is : message.now ≡ now
+
+-- a message as it came: its bytes, the address, the transport, and the moment in seconds since 1970
+pub record Arrival : Type 0 where
+  pub bytes : List ℕ
+  pub source : SocketAddr
+  pub protocol : Protocol
+  pub now : ℕ
+
+abbrev pub arrival : List ℕ → SocketAddr → Protocol → ℕ → Arrival
+arrival bytes source protocol now = record { bytes = bytes; source = source; protocol = protocol; now = now }
+
+-- What becomes of a message whose bytes are lent.
+abbrev pub BytesServed : {H : Type 0} → Rules → Server H → Arrival → Answer → List (DomainName × List H) → Type 0
+BytesServed rules server came answer zones = (message : Incoming) → IsMessageOf came.bytes came.source came.protocol came.now message → ServedBy rules server message answer zones
+
+-- The zones after a message whose bytes are lent, for which memory was refused.
+abbrev pub LeavesBytes : {H : Type 0} → Rules → Server H → Arrival → ServeError → List (DomainName × List H) → Type 0
+LeavesBytes rules server came e zones = (message : Incoming) → IsMessageOf came.bytes came.source came.protocol came.now message → LeavesUnserved rules.access server message e zones

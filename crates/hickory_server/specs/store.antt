@@ -1,0 +1,2 @@
+-- Zones that are read of text.
+pub mod ZoneOfText

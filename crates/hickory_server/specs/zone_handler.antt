@@ -1,0 +1,3 @@
+-- What a server replies from its zones, and what these keep.
+pub mod KeptZones
+pub mod ZoneReplies

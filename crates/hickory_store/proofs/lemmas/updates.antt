@@ -1,0 +1,23 @@
+-- Updates, record by record and name by name, and what they keep.
+pub mod ApexNs
+pub mod ApexSoa
+pub mod ChangedSets
+pub mod CnameAlone
+pub mod DataTypes
+pub mod KeptAtApex
+pub mod NamedSets
+pub mod NamesApart
+pub mod NamesInZones
+pub mod OneSoa
+pub mod RecordByRecord
+pub mod RecordTurns
+pub mod ReplayedRuns
+pub mod Replays
+pub mod SameZones
+pub mod SerialSteps
+pub mod SetChanges
+pub mod TouchedNames
+pub mod UpdateRuns
+pub mod UpdateTurns
+pub mod UpdatedZones
+pub mod UpdatesKeep

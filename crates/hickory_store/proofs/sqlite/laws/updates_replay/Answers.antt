@@ -1,6 +1,0 @@
-use Rattle.hickory_store.proofs.DataTypes.{one_type}
-use Rattle.hickory_store.proofs.ReplayedRuns.{replays}
-use Rattle.hickory_store.proofs.sqlite.laws.updates_replay.Goals as goal
-
-pub returns : goal.returns
-returns g c = replays c.identities.ensures.records (one_type c.record_comparisons.ensures.rdata) g.V.Verifier

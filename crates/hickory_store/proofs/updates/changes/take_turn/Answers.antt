@@ -1,0 +1,36 @@
+-- A turn by cases: the record comes, or does not.
+use Rattle.std.proofs.Common.{◌∙◌, ap}
+use Rattle.std.specs.List.{list_any}
+use Rattle.hickory_store.specs.updates.Changes.{is_added, is_deleted_when, is_spared}
+use Rattle.hickory_store.proofs.lemmas.updates.UpdateTurns.{turn_coming, turn_leaving, changes_coming, changes_leaving}
+use Rattle.hickory_store.proofs.updates.changes.take_turn.Goals as goal
+
+pub returns-in_ok-push-clause-zone : goal.returns-in_ok-push-clause-zone
+returns-in_ok-push-clause-zone c =
+    c.in_ok-push.ensures.items
+    ∙ turn_coming c.args.origin.now c.args.records.now.items c.args.r.now c.is_added-is_coming.result c.is_spared-is_kept.result
+    (c.is_added-is_coming.ensures ∙ ap (λ z. is_added z c.args.r.now) c.deref.ensures.value)
+    (c.is_spared-is_kept.ensures ∙ ap (λ z. is_spared z c.args.r.now) c.deref-2.ensures.value)
+    _ _ c.if-is_coming.true c.take_out.ensures (c.in_ok-copy.ensures.cases (λ e. e))
+
+pub returns-in_ok-push-clause-changed : goal.returns-in_ok-push-clause-changed
+returns-in_ok-push-clause-changed c =
+    changes_coming c.args.origin.now c.args.records.now.items c.args.r.now c.is_added-is_coming.result c.is_spared-is_kept.result
+    (c.is_added-is_coming.ensures ∙ ap (λ z. is_added z c.args.r.now) c.deref.ensures.value)
+    (c.is_spared-is_kept.ensures ∙ ap (λ z. is_spared z c.args.r.now) c.deref-2.ensures.value)
+    c.if-is_coming.true
+
+pub returns-else-is_coming-clause-zone : goal.returns-else-is_coming-clause-zone
+returns-else-is_coming-clause-zone c =
+    turn_leaving c.args.origin.now c.args.records.now.items c.args.r.now c.is_added-is_coming.result c.is_spared-is_kept.result
+    (c.is_added-is_coming.ensures ∙ ap (λ z. is_added z c.args.r.now) c.deref.ensures.value)
+    (c.is_spared-is_kept.ensures ∙ ap (λ z. is_spared z c.args.r.now) c.deref-2.ensures.value)
+    _ c.if-is_coming.false c.take_out.ensures
+
+pub returns-else-is_coming-clause-changed : goal.returns-else-is_coming-clause-changed
+returns-else-is_coming-clause-changed c =
+    changes_leaving c.args.origin.now c.args.records.now.items c.args.r.now c.is_added-is_coming.result c.is_spared-is_kept.result
+    (c.is_added-is_coming.ensures ∙ ap (λ z. is_added z c.args.r.now) c.deref.ensures.value)
+    (c.is_spared-is_kept.ensures ∙ ap (λ z. is_spared z c.args.r.now) c.deref-2.ensures.value)
+    _ c.if-is_coming.false
+    (c.has_going-is_going.ensures ∙ ap (list_any (is_deleted_when c.args.origin.now c.args.r.now c.is_added-is_coming.result c.is_spared-is_kept.result)) c.deref-3.ensures.value)

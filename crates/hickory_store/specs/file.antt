@@ -1,0 +1,3 @@
+-- Zones of records.
+pub mod FirstRecords
+pub mod RecordZones

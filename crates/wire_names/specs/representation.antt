@@ -1,0 +1,4 @@
+-- How the code keeps its values, and what its steps leave: words of proofs, which no reader of the claims needs.
+pub mod NameBytes
+pub mod NameHash
+pub mod OrderKey
