@@ -67,7 +67,7 @@ fn answer<H: ZoneHandler>(
     total
 }
 
-/// The same, by this catalog.
+/// Answers the request that bytes begin with, in each round anew, by this catalog; how many bytes all replies had.
 fn answered<H: ZoneHandler>(
     alloc: Global,
     catalog: &mut Catalog<NoKeys, H>,
@@ -82,7 +82,7 @@ fn answered<H: ZoneHandler>(
     Some(sizes.total())
 }
 
-/// The same, by a zone in memory in a box, as handlers of several types are.
+/// Answers the request that bytes begin with by a zone in memory in a box, as handlers of several types are.
 fn answer_boxed(alloc: Global, zone_bytes: &[u8], bytes: &[u8], rounds: u64) -> Option<u64> {
     let (origin, handler) = zone(alloc, zone_bytes)?;
     let handler: Box<dyn ZoneHandler> = Box::new(alloc, handler).ok()?;
@@ -100,7 +100,7 @@ pub extern "C" fn bench_calls_answer_request(
     answer_boxed(alloc, zone, bytes, rounds).unwrap_or(WRONG)
 }
 
-/// The same, by a zone that takes updates.
+/// Answers the request that bytes begin with by a zone that takes updates.
 fn answer_transfer(alloc: Global, zone_bytes: &[u8], bytes: &[u8], rounds: u64) -> Option<u64> {
     let (origin, handler) = updatable_zone(alloc, zone_bytes)?;
     answer(alloc, origin, handler, bytes, rounds)

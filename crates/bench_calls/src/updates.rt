@@ -45,7 +45,7 @@ fn updated(alloc: Global, zone: &[u8], updates: &[u8], rounds: u64) -> Option<u6
     changed
 }
 
-/// The same, of this zone.
+/// In how many rounds both updates of a message, its answers and then its authorities, changed this zone.
 fn changed(
     alloc: Global,
     zone: &mut UpdatableZoneHandler<NoKeys>,

@@ -10,7 +10,7 @@ use Rattle.hickory_base.specs.zone_store.ZoneAnswers.{MemoryZone}
 use Rattle.hickory_base.specs.zone_store.ZoneSets.{zone_records}
 use Rattle.hickory_base.specs.declared.errors.UpdateFault.{UpdateFault}
 use Rattle.hickory_store.specs.updates.Permission.{update_permission}
-use Rattle.hickory_store.specs.updates.Prerequisites.{prerequisites_refusal}
+use Rattle.hickory_store.specs.updates.Prerequisites.{prerequisite_section_refusal}
 use Rattle.hickory_store.specs.updates.Prescan.{prescan_refusal}
 use Rattle.hickory_store.specs.updates.UpdatableZone.{UpdatableZone}
 use Rattle.hickory_store.specs.updates.UpdateAnswers.{AnswersUpdate, IsOutcome, Outcome, applied, unless_refused}
@@ -38,7 +38,7 @@ module _ {V : Type 0} (by : Ghosts V) where
       let updates : List (Record RData) = (update_of r.message).updates in
       let o : Outcome = applied old.zone.origin (zone_records old.zone.sets) (update_of r.message).updates true in
       let is = none_refused (update_permission by old.verifier old.allow_update r now).refusal
-      (prerequisites_refusal old.zone.origin (zone_records old.zone.sets) (update_of r.message).prerequisites)
+      (prerequisite_section_refusal old.zone.origin (zone_records old.zone.sets) (update_of r.message).prerequisites)
       (prescan_refusal old.zone.origin (update_of r.message).updates)
       (applied old.zone.origin (zone_records old.zone.sets) (update_of r.message).updates true) (zone_records new.zone.sets) changed answers.0.0 in
       record { accepted = is.0; done = leaves (applied old.zone.origin (zone_records old.zone.sets) (update_of r.message).updates true) changed old.zone new.zone is.1 answers.0.1 }

@@ -86,7 +86,7 @@ pub(crate) fn compact<V: Verifier, D: Disk>(
     }
 }
 
-/// The same where there is a spare file, which then has the next generation to give.
+/// Compacts a journal as `compact` does where there is a spare file, which then has the next generation to give.
 pub(crate) fn compact_into<V: Verifier, D: Disk + Drop>(
     zone: &UpdatableZoneHandler<V>,
     journal: &mut Journal<D>,

@@ -145,9 +145,10 @@ impl<V: Verifier, D: Disk + Drop> JournalledZone<V, D> {
         }
     }
 
-    /// The same, and what the last of the requests have changed: of those behind the snapshot, and of so many last ones
-    /// as a history has room for. That is of as many records of transfers as `History::limit_of` tells, of the zone
-    /// that the first of the requests was done to and `least`, twice.
+    /// Opens the journal that two files are in turns as `open_two` does, and gives what the last of the requests have
+    /// changed: of those behind the snapshot, and of so many last ones as a history has room for. That is of as many
+    /// records of transfers as `History::limit_of` tells, of the zone that the first of the requests was done to and
+    /// `least`, twice.
     pub fn open_followed(
         alloc: Global,
         zone: UpdatableZoneHandler<V>,

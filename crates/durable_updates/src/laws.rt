@@ -69,10 +69,10 @@ pub fn runs_are_kept<V: Verifier, D: Disk>()
     ensures { RunsAreKept V.Verifier D.Disk }
 {}
 
-/// The same of a journal in two files by turns that is compacted now and then, with crashes at any moment of a
-/// compaction too: at each start the server has the zone that the acknowledged updates of all lives make of the first
-/// zone, in their order, and behind those of each life at most what was in doubt, whole or not at all, up to the order
-/// of its records.
+/// A process serves a zone with a journal in two files by turns, which is compacted now and then; it ends at any
+/// moment, within a compaction too, and is started again, as often as you like. At each start the server has the zone
+/// that the acknowledged updates of all lives make of the first zone, in their order, and behind those of each life at
+/// most what was in doubt, whole or not at all, up to the order of its records.
 pub fn compacted_runs_are_kept<V: Verifier, D: Disk>()
     ensures { CompactedRunsAreKept V.Verifier D.Disk }
 {

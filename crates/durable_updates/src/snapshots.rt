@@ -280,8 +280,9 @@ pub fn recall<V: Verifier>(
     redo(zone, alloc, requests)
 }
 
-/// The same up to the first zone of a serial, and the entries behind that; `None` where no zone on the way has it, and
-/// then all are done. The first zone is that of the snapshot, where the file was compacted.
+/// Does the entries of a file, as `recall` does, up to the first zone of a serial, and gives those behind that; `None`
+/// where no zone on the way has it, and then all are done. The first zone is that of the snapshot, where the file was
+/// compacted.
 pub fn recall_to<'e, V: Verifier>(
     zone: &mut UpdatableZoneHandler<V>,
     alloc: Global,

@@ -27,7 +27,7 @@ use Rattle.hickory_store.specs.declared.updates.verifier.Verifier.{Ghosts}
 use Rattle.hickory_zone.proofs.lemmas.names.EnclosedBetween.{same_of}
 use Rattle.hickory_zone.proofs.lemmas.zones.Features.{wild_of_length}
 use Rattle.hickory_zone.specs.representation.Features.{AreFeatures, Covers, Includes, IsOfLength, IsWildWithin}
-use Rattle.hickory_zone.specs.Replies.{zone_of}
+use Rattle.hickory_zone.specs.Replies.{as_zone}
 use Rattle.hickory_zone.specs.Zones.{Exists, HasDname, IsCut, Sets, rrset, wildcard}
 use Rattle.hickory_zone.specs.declared.features.Features.{Features}
 use Rattle.dynamic_zone.proofs.NamesStay.{names_stay, origin_stays}
@@ -99,7 +99,7 @@ module _ (P : DomainName → ℕ → Type 0) (respects : (a b : DomainName) (t :
 module _ (identity : (a b : Resource) → IsTrue (same_record a b) ↔ SameRecord a b) {V : Type 0} (by : Ghosts V) (request : ReceivedRequest) (now : ℕ) (answer : Result Bool UpdateFault) (context : Option TSigResponseContext)
     (old new : UpdatableZone V) (a : AnswersUpdate by old (request, now) answer context new)
     (zone : IsZone old.zone.sets) (ordered : AreSetsInOrder old.zone.sets) (zone_after : IsZone new.zone.sets) (ordered_after : AreSetsInOrder new.zone.sets)
-    (less more : Features) (has : AreFeatures (zone_of old.zone) less) (includes : Includes less more) (covers : AllByRecursion (Covers more) (update_of request.message).updates) where
+    (less more : Features) (has : AreFeatures (as_zone old.zone) less) (includes : Includes less more) (covers : AllByRecursion (Covers more) (update_of request.message).updates) where
   abbrev origin : DomainName
   origin = old.zone.origin
 
@@ -123,7 +123,7 @@ module _ (identity : (a b : Resource) → IsTrue (same_record a b) ↔ SameRecor
   unfolding CutCovered
   cut_before r e is labels within below =
       let servers : is_some (rrset old.zone.sets r.name 2) ≡ true = some_set old.zone.sets r.name 2 ordered zone ∙ subst (λ t. list_any (is_of r.name t) (zone_records old.zone.sets) ≡ true) is e in
-      let cut : IsCut (zone_of old.zone) r.name = record { within = within; below_apex = below; servers = servers } in
+      let cut : IsCut (as_zone old.zone) r.name = record { within = within; below_apex = below; servers = servers } in
       includes.cuts.each (length (wire_form r.name.labels)) (has.cuts r.name labels cut)
 
   cuts_after : AllByRecursion (λ r. CutCovered r.name (type_of r.rdata)) (zone_records new.zone.sets)
@@ -131,7 +131,7 @@ module _ (identity : (a b : Resource) → IsTrue (same_record a b) ↔ SameRecor
       names_stay identity CutCovered cut_respects by request now answer context old new (λ _. cut_brought (update_of request.message).updates covers) a
       (each_of (λ r. CutCovered r.name (type_of r.rdata)) (zone_records old.zone.sets) cut_before)
 
-  cuts : (name : DomainName) → AreLabels name.labels → IsCut (zone_of new.zone) name → IsOfLength more.cuts (length (wire_form name.labels))
+  cuts : (name : DomainName) → AreLabels name.labels → IsCut (as_zone new.zone) name → IsOfLength more.cuts (length (wire_form name.labels))
   unfolding CutCovered
   cuts name labels cut =
       let same : new.zone.origin ≡ old.zone.origin = origin_stays by request now answer context old new a in
@@ -152,7 +152,7 @@ module _ (identity : (a b : Resource) → IsTrue (same_record a b) ↔ SameRecor
   dname_brought [] k = tt
   dname_brought (r ∷ rs) k = ((λ e within. k.0.dnames e), dname_brought rs k.1)
 
-  some_dname : (b : Bool) (name : DomainName) → less.dnames ≡ b → HasDname (zone_of old.zone) name → more.dnames ≡ true
+  some_dname : (b : Bool) (name : DomainName) → less.dnames ≡ b → HasDname (as_zone old.zone) name → more.dnames ≡ true
   some_dname true name e d = includes.dnames e
   some_dname false name e d = absurd (has.dnames e name d)
 
@@ -167,7 +167,7 @@ module _ (identity : (a b : Resource) → IsTrue (same_record a b) ↔ SameRecor
       names_stay identity DnameCovered dname_respects by request now answer context old new (λ _. dname_brought (update_of request.message).updates covers) a
       (each_of (λ r. DnameCovered r.name (type_of r.rdata)) (zone_records old.zone.sets) dname_before)
 
-  dnames : more.dnames ≡ false → (name : DomainName) → ¬ (HasDname (zone_of new.zone) name)
+  dnames : more.dnames ≡ false → (name : DomainName) → ¬ (HasDname (as_zone new.zone) name)
   unfolding DnameCovered
   dnames none name d =
       let same : new.zone.origin ≡ old.zone.origin = origin_stays by request now answer context old new a in
@@ -213,5 +213,5 @@ module _ (identity : (a b : Resource) → IsTrue (same_record a b) ↔ SameRecor
         All-contains (λ (key : RrKey). WildCovered key.name key.record_type) (keys_of new.zone.sets) x.owner
         (All-from_recursion (λ (key : RrKey). WildCovered key.name key.record_type) (keys_of new.zone.sets) (keys_of_records WildCovered wild_respects new.zone.sets zone_after wild_after)) x.held x.at_or_below
 
-  pub features_stay : AreFeatures (zone_of new.zone) more
+  pub features_stay : AreFeatures (as_zone new.zone) more
   features_stay = record { cuts = cuts; dnames = dnames; wildcards = λ encloser labels x. wild encloser labels x }

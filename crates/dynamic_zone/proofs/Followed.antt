@@ -17,7 +17,7 @@ use Rattle.hickory_store.specs.updates.UpdatableZone.{UpdatableZone}
 use Rattle.hickory_store.specs.updates.UpdateAnswers.{AnswersUpdate}
 use Rattle.hickory_store.specs.declared.updates.verifier.Verifier.{Ghosts}
 use Rattle.hickory_zone.specs.representation.Features.{AreFeatures, Covers, Includes}
-use Rattle.hickory_zone.specs.Replies.{zone_of}
+use Rattle.hickory_zone.specs.Replies.{as_zone}
 use Rattle.hickory_zone.specs.Zones.{AreOwners}
 use Rattle.hickory_zone.specs.declared.features.Features.{Features}
 use Rattle.dynamic_zone.specs.OwnerLaws.{IsNamed}
@@ -42,8 +42,8 @@ pub record Brings (less more : Features) (updates : Records) : Type 0 where
 module _ (zones : (origin name : DomainName) → IsTrue (is_in_zone origin name) ↔ Encloses origin.labels name.labels) (identity : (a b : Resource) → IsTrue (same_record a b) ↔ SameRecord a b)
     {V : Type 0} (by : Ghosts V) (request : ReceivedRequest) (now : ℕ) (answer : Result Bool UpdateFault) (context : Option TSigResponseContext) (old new : UpdatableZone V) (a : AnswersUpdate by old (request, now) answer context new)
     (before : AreSets old) (after : AreSets new) (less more : Features) (is_owned : Bool) where
-  brought : Brings less more (update_of request.message).updates → AreFeatures (zone_of old.zone) less × (IsTrue is_owned ↔ AreOwners old.zone.origin old.zone.sets) → is_owned ≡ true
-      → AreFeatures (zone_of new.zone) more × (IsTrue is_owned ↔ AreOwners new.zone.origin new.zone.sets)
+  brought : Brings less more (update_of request.message).updates → AreFeatures (as_zone old.zone) less × (IsTrue is_owned ↔ AreOwners old.zone.origin old.zone.sets) → is_owned ≡ true
+      → AreFeatures (as_zone new.zone) more × (IsTrue is_owned ↔ AreOwners new.zone.origin new.zone.sets)
   brought b seen owned = (
     features_stay identity by request now answer context old new a before.zone before.ordered after.zone after.ordered less more seen.0 b.includes (recursion_from_All (Covers more) (update_of request.message).updates b.covers),
     (
@@ -54,6 +54,6 @@ module _ (zones : (origin name : DomainName) → IsTrue (is_in_zone origin name)
     ),
   )
 
-  pub followed : (updates : Records) → updates ≡ (update_of request.message).updates → Brings less more updates → AreFeatures (zone_of old.zone) less × (IsTrue is_owned ↔ AreOwners old.zone.origin old.zone.sets) → is_owned ≡ true
-      → AreFeatures (zone_of new.zone) more × (IsTrue is_owned ↔ AreOwners new.zone.origin new.zone.sets)
+  pub followed : (updates : Records) → updates ≡ (update_of request.message).updates → Brings less more updates → AreFeatures (as_zone old.zone) less × (IsTrue is_owned ↔ AreOwners old.zone.origin old.zone.sets) → is_owned ≡ true
+      → AreFeatures (as_zone new.zone) more × (IsTrue is_owned ↔ AreOwners new.zone.origin new.zone.sets)
   followed updates e b = brought (subst (Brings less more) e b)

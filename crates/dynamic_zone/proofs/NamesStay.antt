@@ -17,7 +17,7 @@ use Rattle.hickory_base.specs.declared.errors.UpdateFault.{UpdateFault}
 use Rattle.hickory_store.specs.updates.Changes.{any_change, is_added, after_updates, is_deleted_when, is_spared, after_record}
 use Rattle.hickory_store.specs.updates.Identity.{SameZone, same_record, ttl_at}
 use Rattle.hickory_store.specs.updates.Permission.{update_permission}
-use Rattle.hickory_store.specs.updates.Prerequisites.{prerequisites_refusal}
+use Rattle.hickory_store.specs.updates.Prerequisites.{prerequisite_section_refusal}
 use Rattle.hickory_store.specs.updates.Prescan.{prescan_refusal}
 use Rattle.hickory_store.specs.updates.UpdatableZone.{UpdatableZone}
 use Rattle.hickory_store.specs.updates.UpdateAnswers.{AnswersUpdate, IsOutcome, Outcome, Updates, applied, incremented, is_apex_soa, message_outcome, next_data, unless_refused, with_next_serial}
@@ -102,8 +102,8 @@ module _ (identity : (a b : Resource) → IsTrue (same_record a b) ↔ SameRecor
       let records : Records = zone_records zone.sets in
       let last : Outcome = applied zone.origin records message.updates true in
       let scan : Option ℕ = prescan_refusal zone.origin message.updates in
-      unless_left refusal (unless_refused (prerequisites_refusal zone.origin records message.prerequisites) (unless_refused scan last)) (λ _.
-      unless_left (prerequisites_refusal zone.origin records message.prerequisites) (unless_refused scan last) (λ _.
+      unless_left refusal (unless_refused (prerequisite_section_refusal zone.origin records message.prerequisites) (unless_refused scan last)) (λ _.
+      unless_left (prerequisite_section_refusal zone.origin records message.prerequisites) (unless_refused scan last) (λ _.
       unless_left scan last (λ e. changed_left zone.origin message.updates records (any_change zone.origin records message.updates) (k e) h)))
 
   -- ---- lists that stand for one zone

@@ -11,16 +11,16 @@ use Rattle.hickory_base.specs.declared.errors.LookupError.TheVariants.{ResponseC
 use Rattle.hickory_base.specs.declared.zone_store.lookup.ZoneTransfer.{ZoneTransfer}
 use Rattle.hickory_store.specs.updates.Permission.{Permission}
 use Rattle.hickory_zone.specs.Handled.{names_zone}
-use Rattle.hickory_zone.specs.Replies.{zone_of}
+use Rattle.hickory_zone.specs.Replies.{as_zone}
 use Rattle.dynamic_zone.specs.DynamicZones.{IsGiven, TransferredFor}
 
 module _ (zone : MemoryZone) (permission : Permission) (request : ReceivedRequest) (asked : Result Query LookupError) (query : Query) (answer : Option (Result ZoneTransfer LookupError × Option TSigResponseContext)) (is : asked ≡ Ok query) where
-  of_zone : (b : Bool) → names_zone (zone_of zone) query ≡ b → MatchBool b (IsGiven zone permission request query answer) (answer ≡ Some (Err (ResponseCode code_not_auth), None)) → TransferredFor zone permission request asked answer
+  of_zone : (b : Bool) → names_zone (as_zone zone) query ≡ b → MatchBool b (IsGiven zone permission request query answer) (answer ≡ Some (Err (ResponseCode code_not_auth), None)) → TransferredFor zone permission request asked answer
   of_zone b e h =
       subst (λ (q : Result Query LookupError). TransferredFor zone permission request q answer) (sym is) (subst (λ (x : Bool). MatchBool x (IsGiven zone permission request query answer) (answer ≡ Some (Err (ResponseCode code_not_auth), None))) (sym e) h)
 
-  pub transferred : names_zone (zone_of zone) query ≡ true → IsGiven zone permission request query answer → TransferredFor zone permission request asked answer
+  pub transferred : names_zone (as_zone zone) query ≡ true → IsGiven zone permission request query answer → TransferredFor zone permission request asked answer
   transferred e h = of_zone true e h
 
-  pub not_transferred : names_zone (zone_of zone) query ≡ false → answer ≡ Some (Err (ResponseCode code_not_auth), None) → TransferredFor zone permission request asked answer
+  pub not_transferred : names_zone (as_zone zone) query ≡ false → answer ≡ Some (Err (ResponseCode code_not_auth), None) → TransferredFor zone permission request asked answer
   not_transferred e h = of_zone false e h

@@ -18,7 +18,7 @@ use Rattle.hickory_base.specs.declared.zone_store.lookup.ZoneTransfer.{ZoneTrans
 use Rattle.hickory_store.specs.updates.Permission.{Permission}
 use Rattle.hickory_store.specs.updates.TransferAnswers.{SoaTransferredAs, TransferredAs}
 use Rattle.hickory_zone.specs.Handled.{IsLookedUp, StandsFor, is_by_soa, names_zone}
-use Rattle.hickory_zone.specs.Replies.{zone_of}
+use Rattle.hickory_zone.specs.Replies.{as_zone}
 use Rattle.hickory_zone.specs.Zones.{AreOwners}
 
 -- What stands for the reply of a zone.
@@ -27,7 +27,7 @@ IsAnswered zone query result = AreOwners zone.origin zone.sets → StandsFor zon
 
 -- What a lookup gives in it.
 abbrev pub IsFound : MemoryZone → DomainName → ℕ → Result AuthLookup LookupError → Type 0
-IsFound zone name t result = AreOwners zone.origin zone.sets → IsLookedUp (zone_of zone) name t result
+IsFound zone name t result = AreOwners zone.origin zone.sets → IsLookedUp (as_zone zone) name t result
 
 -- a search: the one question of the request is replied to, but for want of memory
 abbrev pub SearchedFor : MemoryZone → Result Query LookupError → Flow → Type 0
@@ -47,7 +47,7 @@ IsGiven zone permission request query answer = MatchBool (is_by_soa zone request
 
 -- A transfer is given of the zone; of any other name the server holds no zone: NOTAUTH (RFC 5936 section 2.2.1).
 abbrev pub TransferredFor : MemoryZone → Permission → ReceivedRequest → Result Query LookupError → Option (Result ZoneTransfer LookupError × Option TSigResponseContext) → Type 0
-TransferredFor zone permission request (Ok query) answer = MatchBool (names_zone (zone_of zone) query) (IsGiven zone permission request query answer) (answer ≡ Some (Err (ResponseCode code_not_auth), None))
+TransferredFor zone permission request (Ok query) answer = MatchBool (names_zone (as_zone zone) query) (IsGiven zone permission request query answer) (answer ≡ Some (Err (ResponseCode code_not_auth), None))
 TransferredFor zone permission request (Err e) answer = answer ≡ Some (Err e, None)
 
 abbrev pub TransferAnswered : MemoryZone → Permission → ReceivedRequest → Option (Result ZoneTransfer LookupError × Option TSigResponseContext) → Type 0

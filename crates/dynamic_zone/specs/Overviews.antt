@@ -9,13 +9,13 @@ use Rattle.hickory_store.specs.updates.UpdatableZone.{UpdatableZone}
 use Rattle.hickory_store.specs.updates.UpdateAnswers.{AnswersUpdate}
 use Rattle.hickory_store.specs.declared.updates.verifier.Verifier.{Ghosts}
 use Rattle.hickory_zone.specs.representation.Features.{AreFeatures}
-use Rattle.hickory_zone.specs.Replies.{zone_of}
+use Rattle.hickory_zone.specs.Replies.{as_zone}
 use Rattle.hickory_zone.specs.Zones.{AreOwners}
 use Rattle.dynamic_zone.specs.declared.overview.Overview.{Overview}
 
 -- What the zone has at all, and whether each of its owner names may own records of it.
 abbrev pub IsOverview : MemoryZone → Overview → Type 0
-IsOverview zone overview = AreFeatures (zone_of zone) overview.has × (IsTrue overview.is_owned ↔ AreOwners zone.origin zone.sets)
+IsOverview zone overview = AreFeatures (as_zone zone) overview.has × (IsTrue overview.is_owned ↔ AreOwners zone.origin zone.sets)
 
 -- This request may have left the zone `new`. Of each zone that it was made in, with this overview, the zone that it
 -- left has that one.

@@ -5,7 +5,7 @@ ghost use Rattle.hickory_base.specs.zone_store.ZoneSets.{AreSetsInOrder, IsZone}
 ghost use Rattle.hickory_base.specs.declared.errors.LookupError.TheVariants.{Memory};
 ghost use Rattle.hickory_store.specs.updates.Permission.{transfer_permission};
 ghost use Rattle.hickory_zone.specs.representation.Features.{AreFeatures};
-ghost use Rattle.hickory_zone.specs.Replies.{zone_of};
+ghost use Rattle.hickory_zone.specs.Replies.{as_zone};
 ghost use Rattle.hickory_zone.specs.Zones.{AreOwners};
 ghost use Rattle.dynamic_zone.specs.DynamicZones.{IsAnswered, IsFound, IsGiven, LookedUp, Searched, TransferAnswered};
 ghost use Rattle.dynamic_zone.specs.OwnerLaws.{IsNamed};
@@ -61,7 +61,7 @@ fn are_named(records: &[Record]) -> bool
 impl Overview {
     /// The overview of a zone: it takes time by the zone's sets, and no memory.
     pub fn of(zone: &InMemoryZoneHandler) -> Overview
-        ensures has { AreFeatures (zone_of zone.now) result.has }
+        ensures has { AreFeatures (as_zone zone.now) result.has }
         ensures owned { IsTrue result.is_owned ↔ AreOwners zone.now.origin zone.now.sets }
     {
         Overview {

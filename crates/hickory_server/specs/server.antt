@@ -1,6 +1,6 @@
 -- What becomes of messages, by the rules of a server.
-pub mod Cut
 pub mod DecodedOutcomes
+pub mod Fitted
 pub mod Isolation
 pub mod Ruling
 pub mod ServedBy

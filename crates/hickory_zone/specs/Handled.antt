@@ -26,7 +26,7 @@ use Rattle.wire_messages.specs.declared.rr.rdata.RData.{RData}
 use Rattle.wire_messages.specs.declared.rr.rdata.RData.TheVariants as rdata
 use Rattle.wire_messages.specs.declared.rr.tsig.TSigResponseContext.{TSigResponseContext}
 use Rattle.hickory_zone.specs.Additionals.{is_hostless}
-use Rattle.hickory_zone.specs.Replies.{RepliesTo, denial_soa, is_class, whole, zone_of}
+use Rattle.hickory_zone.specs.Replies.{RepliesTo, denial_soa, is_class, whole, as_zone}
 use Rattle.hickory_zone.specs.Zones.{Records, Zone}
 
 -- the server holds the zone or a copy of it, so that the catalog puts the SOA into its denials
@@ -38,11 +38,11 @@ is_held External = false
 -- What stands for the zone's reply: the reply itself; where nothing was followed and nothing is added, records that are
 -- not the SOA, or a denial, for which `lookup` gives the SOA.
 pub data StandsFor (zone : MemoryZone) (query : Query) : Result AuthLookup LookupError → Type 0 where
-  in_whole : {reply : WholeReply} → RepliesTo (zone_of zone) query reply → StandsFor zone query (Ok (lookup.Whole reply))
+  in_whole : {reply : WholeReply} → RepliesTo (as_zone zone) query reply → StandsFor zone query (Ok (lookup.Whole reply))
   by_records : {rs : Records} → is_held zone.zone_type ≡ true → (query.query_type == type_soa) ≡ false → AllByRecursion (λ q. is_hostless q.rdata ≡ true) rs
-      → RepliesTo (zone_of zone) query (whole code_no_error true rs [] []) → StandsFor zone query (Ok (lookup.Records rs []))
-  by_no_name : is_held zone.zone_type ≡ true → RepliesTo (zone_of zone) query (whole code_nx_domain true [] (denial_soa (zone_of zone)) []) → StandsFor zone query no_name
-  by_no_data : is_held zone.zone_type ≡ true → RepliesTo (zone_of zone) query (whole code_no_error true [] (denial_soa (zone_of zone)) []) → StandsFor zone query no_data
+      → RepliesTo (as_zone zone) query (whole code_no_error true rs [] []) → StandsFor zone query (Ok (lookup.Records rs []))
+  by_no_name : is_held zone.zone_type ≡ true → RepliesTo (as_zone zone) query (whole code_nx_domain true [] (denial_soa (as_zone zone)) []) → StandsFor zone query no_name
+  by_no_data : is_held zone.zone_type ≡ true → RepliesTo (as_zone zone) query (whole code_no_error true [] (denial_soa (as_zone zone)) []) → StandsFor zone query no_data
 
 -- a search: the one question of the request is replied to, but for want of memory
 abbrev pub SearchedFor : MemoryZone → Result Query LookupError → Flow → Type 0
@@ -71,7 +71,7 @@ IsLookedUp zone name t result = MatchBool (is_soa zone name t) (result ≡ Ok (l
     ((reply : WholeReply) × RepliesTo zone (question name t) reply × (result ≡ records_of reply))
 
 abbrev pub LookedUp : MemoryZone → DomainName → ℕ → Flow → Type 0
-LookedUp zone name t answer = (result : _) × (IsLookedUp (zone_of zone) name t result ⊎ (result ≡ Err Memory)) × (answer ≡ Continue result)
+LookedUp zone name t answer = (result : _) × (IsLookedUp (as_zone zone) name t result ⊎ (result ≡ Err Memory)) × (answer ≡ Continue result)
 
 -- The question names the zone: by its apex and its class.
 abbrev pub names_zone : Zone → Query → Bool
@@ -107,7 +107,7 @@ IsGiven zone request query answer = MatchBool (is_by_soa zone request query) (So
 
 -- A transfer is given of the zone; of any other name the server holds no zone: NOTAUTH (RFC 5936 section 2.2.1).
 abbrev pub TransferredFor : MemoryZone → ReceivedRequest → Result Query LookupError → Option (Result ZoneTransfer LookupError × Option TSigResponseContext) → Type 0
-TransferredFor zone request (Ok query) answer = MatchBool (names_zone (zone_of zone) query) (IsGiven zone request query answer) (answer ≡ Some (Err (ResponseCode code_not_auth), None))
+TransferredFor zone request (Ok query) answer = MatchBool (names_zone (as_zone zone) query) (IsGiven zone request query answer) (answer ≡ Some (Err (ResponseCode code_not_auth), None))
 TransferredFor zone request (Err e) answer = answer ≡ Some (Err e, None)
 
 abbrev pub TransferAnswered : MemoryZone → ReceivedRequest → Option (Result ZoneTransfer LookupError × Option TSigResponseContext) → Type 0

@@ -16,7 +16,7 @@ use Rattle.hickory_base.specs.declared.zone_store.lookup.LookupControlFlow.TheVa
 use Rattle.hickory_base.specs.declared.zone_store.lookup.WholeReply.{WholeReply}
 use Rattle.hickory_zone.specs.declared.zone_with_parent.ZoneWithParent.{ZoneWithParent}
 use Rattle.hickory_zone.specs.Handled.{StandsFor}
-use Rattle.hickory_zone.specs.Replies.{RepliesTo, zone_of}
+use Rattle.hickory_zone.specs.Replies.{RepliesTo, as_zone}
 
 -- The question is for the DS records of the apex of the zone, which stand in the zone above (RFC 4035 section 3.1.4.1).
 abbrev pub is_above : MemoryZone → Query → Bool
@@ -30,7 +30,7 @@ asked_above both query = cond (is_above both.zone.value query) (option_map (λ p
 -- of the zone.
 abbrev pub IsGiven : MemoryZone → Query → Option MemoryZone → Result AuthLookup LookupError → Type 0
 IsGiven zone query None result = StandsFor zone query result
-IsGiven zone query (Some parent) result = (reply : WholeReply) × RepliesTo (zone_of parent) query reply × (result ≡ Ok (lookup.Whole reply))
+IsGiven zone query (Some parent) result = (reply : WholeReply) × RepliesTo (as_zone parent) query reply × (result ≡ Ok (lookup.Whole reply))
 
 -- a search: the one question of the request is replied to, but for want of memory
 abbrev pub SearchedFor : ZoneWithParent → Result Query LookupError → Flow → Type 0

@@ -18,8 +18,8 @@ use Rattle.hickory_zone.specs.Endings as ended
 use Rattle.hickory_zone.specs.Zones.{Records, Zone, rrset}
 
 -- its apex and its RRsets
-abbrev pub zone_of : MemoryZone → Zone
-zone_of zone = record { origin = zone.origin; sets = zone.sets }
+abbrev pub as_zone : MemoryZone → Zone
+as_zone zone = record { origin = zone.origin; sets = zone.sets }
 
 -- a reply by its code, AA, and the answer, authority and additional sections
 abbrev pub whole : ℕ → Bool → Records → Records → Records → WholeReply

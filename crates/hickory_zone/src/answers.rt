@@ -11,7 +11,7 @@ ghost use Rattle.hickory_zone.specs.Chains.{IsIn};
 ghost use Rattle.hickory_zone.specs.representation.Features.{AreFeatures};
 ghost use Rattle.hickory_zone.specs.Handled.{question};
 ghost use Rattle.hickory_zone.specs.representation.Indexes.{IsIndexOf};
-ghost use Rattle.hickory_zone.specs.Replies.{IsReplied, RepliesTo, denial_soa, is_class, whole, zone_of};
+ghost use Rattle.hickory_zone.specs.Replies.{IsReplied, RepliesTo, denial_soa, is_class, whole, as_zone};
 ghost use Rattle.hickory_zone.specs.representation.FoundRecords.{outcome_of};
 ghost use Rattle.hickory_zone.specs.Zones.{Answers, AreOwners, IsOwner};
 
@@ -121,12 +121,12 @@ fn put_within<'z>(
 ) -> Result<(), AllocError>
     requires least { first.now.record_type ≡ 0 }
     requires owners { AreOwners zone.now.origin zone.now.sets }
-    requires features { AreFeatures (zone_of zone.now) has }
-    requires soa { IfSome (option_copied soa) (λ rs. rs ≡ denial_soa (zone_of zone.now)) }
+    requires features { AreFeatures (as_zone zone.now) has }
+    requires soa { IfSome (option_copied soa) (λ rs. rs ≡ denial_soa (as_zone zone.now)) }
     requires index { IfSome (option_copied index) (IsIndexOf zone.now.origin zone.now.sets) }
     requires spelled { first.now.name ≡ lower_name name.now }
-    requires within { IsIn (zone_of zone.now) first.now.name }
-    ensures { OnOk result (IsReplied (zone_of zone.now) name.now record_type reply.new) }
+    requires within { IsIn (as_zone zone.now) first.now.name }
+    ensures { OnOk result (IsReplied (as_zone zone.now) name.now record_type reply.new) }
 {
     let origin = zone.origin();
     let sets = zone.records();
@@ -189,10 +189,10 @@ pub(crate) fn answer<'z>(
     reply: &mut WholeReply<'z>,
 ) -> Result<(), AllocError>
     requires owners { AreOwners zone.now.origin zone.now.sets }
-    requires features { AreFeatures (zone_of zone.now) has }
-    requires soa { IfSome (option_copied soa) (λ rs. rs ≡ denial_soa (zone_of zone.now)) }
+    requires features { AreFeatures (as_zone zone.now) has }
+    requires soa { IfSome (option_copied soa) (λ rs. rs ≡ denial_soa (as_zone zone.now)) }
     requires index { IfSome (option_copied index) (IsIndexOf zone.now.origin zone.now.sets) }
-    ensures { OnOk result (RepliesTo (zone_of zone.now) query.now reply.new) }
+    ensures { OnOk result (RepliesTo (as_zone zone.now) query.now reply.new) }
 {
     if !is_class(query.query_class()) || !is_in(zone.origin(), query.name()) {
         *reply = refused();
@@ -221,9 +221,9 @@ pub fn reply<'z>(
     soa: Option<&'z [Record]>,
 ) -> Result<WholeReply<'z>, AllocError>
     requires owners { AreOwners zone.now.origin zone.now.sets }
-    requires features { AreFeatures (zone_of zone.now) has }
-    requires soa { IfSome (option_copied soa) (λ rs. rs ≡ denial_soa (zone_of zone.now)) }
-    ensures { IfOk result (RepliesTo (zone_of zone.now) query.now) }
+    requires features { AreFeatures (as_zone zone.now) has }
+    requires soa { IfSome (option_copied soa) (λ rs. rs ≡ denial_soa (as_zone zone.now)) }
+    ensures { IfOk result (RepliesTo (as_zone zone.now) query.now) }
 {
     let mut reply = refused();
     answer(alloc, zone, query, has, soa, None, &mut reply)?;
@@ -240,9 +240,9 @@ pub fn reply_to<'z>(
     soa: Option<&'z [Record]>,
 ) -> Result<WholeReply<'z>, AllocError>
     requires owners { AreOwners zone.now.origin zone.now.sets }
-    requires features { AreFeatures (zone_of zone.now) has }
-    requires soa { IfSome (option_copied soa) (λ rs. rs ≡ denial_soa (zone_of zone.now)) }
-    ensures { IfOk result (RepliesTo (zone_of zone.now) (question name.now record_type)) }
+    requires features { AreFeatures (as_zone zone.now) has }
+    requires soa { IfSome (option_copied soa) (λ rs. rs ≡ denial_soa (as_zone zone.now)) }
+    ensures { IfOk result (RepliesTo (as_zone zone.now) (question name.now record_type)) }
 {
     let mut reply = refused();
     if !is_in(zone.origin(), name) {

@@ -6,7 +6,7 @@ ghost use Rattle.hickory_base.specs.declared.errors.LookupError.TheVariants.{Mem
 ghost use Rattle.hickory_base.specs.declared.errors.UpdateFault.TheVariants.{Code};
 ghost use Rattle.hickory_base.specs.declared.zone_store.lookup.LookupControlFlow.TheVariants.{Skip};
 ghost use Rattle.hickory_zone.specs.Handled.{LookedUp, Searched, StandsFor, TransferAnswered};
-ghost use Rattle.hickory_zone.specs.Replies.{RepliesTo, zone_of};
+ghost use Rattle.hickory_zone.specs.Replies.{RepliesTo, as_zone};
 ghost use Rattle.hickory_zone.specs.Zones.{AreOwners};
 
 use crate::answers::{answer, are_owners, refused};
@@ -44,13 +44,13 @@ impl Model for AuthoritativeZone {
 
     ghost use Rattle.hickory_zone.specs.representation.Features.{AreFeatures};
     ghost use Rattle.hickory_zone.specs.representation.Indexes.{IsIndexOf};
-    ghost use Rattle.hickory_zone.specs.Replies.{denial_soa, zone_of};
+    ghost use Rattle.hickory_zone.specs.Replies.{denial_soa, as_zone};
     ghost use Rattle.hickory_zone.specs.Zones.{AreOwners};
 
     ghost view = { λ z. z.zone };
 
-    ghost invariant = { λ z. AreOwners z.zone.origin z.zone.sets × AreFeatures (zone_of z.zone) z.has ×
-        (z.soa.items ≡ denial_soa (zone_of z.zone)) × IsIndexOf z.zone.origin z.zone.sets z.index };
+    ghost invariant = { λ z. AreOwners z.zone.origin z.zone.sets × AreFeatures (as_zone z.zone) z.has ×
+        (z.soa.items ≡ denial_soa (as_zone z.zone)) × IsIndexOf z.zone.origin z.zone.sets z.index };
 }
 
 impl AuthoritativeZone {
@@ -96,7 +96,7 @@ impl AuthoritativeZone {
     ///
     /// Memory was refused.
     pub fn reply(&self, alloc: Global, query: &LowerQuery) -> Result<WholeReply<'_>, AllocError>
-        ensures { IfOk result (RepliesTo (zone_of self.now) query.now) }
+        ensures { IfOk result (RepliesTo (as_zone self.now) query.now) }
     {
         let mut reply = refused();
         let soa = Some(self.soa.as_slice());
@@ -115,7 +115,7 @@ impl AuthoritativeZone {
         query: &LowerQuery,
         reply: &mut WholeReply<'z>,
     ) -> bool
-        ensures { IsTrue result → RepliesTo (zone_of self.now) query.now reply.new }
+        ensures { IsTrue result → RepliesTo (as_zone self.now) query.now reply.new }
     {
         let soa = Some(self.soa.as_slice());
         let index = Some(&self.index);

@@ -3,7 +3,7 @@
 ghost use Rattle.std.specs.Prelude.{◌≡◌, IfOk, IfSome};
 ghost use Rattle.std.specs.Option.{option_copied};
 ghost use Rattle.hickory_base.specs.zone_store.ZoneSets.{sets_of};
-ghost use Rattle.hickory_zone.specs.Replies.{denial_soa, denial_ttl, for_denial, zone_of};
+ghost use Rattle.hickory_zone.specs.Replies.{denial_soa, denial_ttl, for_denial, as_zone};
 
 use crate::find::set_under;
 use hickory_base::zone_store::{InMemoryZoneHandler, RecordList, RecordSet, ZoneHandler};
@@ -55,7 +55,7 @@ fn made(
 
 /// The zone's SOA record as it stands in denials, if the zone has one.
 pub fn denial_soa(alloc: Global, zone: &InMemoryZoneHandler) -> Result<Vec<Record>, AllocError>
-    ensures { IfOk result (λ soa. soa.items ≡ denial_soa (zone_of zone.now)) }
+    ensures { IfOk result (λ soa. soa.items ≡ denial_soa (as_zone zone.now)) }
 {
     made(alloc, zone.origin(), zone.records())
 }

@@ -6,7 +6,7 @@ ghost use Rattle.hickory_base.specs.declared.errors.LookupError.TheVariants.{Mem
 ghost use Rattle.hickory_base.specs.declared.zone_store.lookup.LookupControlFlow.TheVariants.{Break};
 ghost use Rattle.hickory_zone.specs.representation.Features.{AreFeatures};
 ghost use Rattle.hickory_zone.specs.Handled.{IsGiven, IsLookedUp, StandsFor, TransferAnswered, held_serial, is_by_soa, is_no_older, is_soa, names_zone, records_of};
-ghost use Rattle.hickory_zone.specs.Replies.{denial_soa, zone_of};
+ghost use Rattle.hickory_zone.specs.Replies.{denial_soa, as_zone};
 ghost use Rattle.hickory_zone.specs.Zones.{AreOwners, Zone};
 
 use crate::answers::{answer, is_class, refused, reply_to};
@@ -34,8 +34,8 @@ pub fn whole<'z>(
     soa: Option<&'z [Record]>,
 ) -> Result<AuthLookup<'z>, LookupError>
     requires owners { AreOwners zone.now.origin zone.now.sets }
-    requires features { AreFeatures (zone_of zone.now) has }
-    requires soa { IfSome (option_copied soa) (λ rs. rs ≡ denial_soa (zone_of zone.now)) }
+    requires features { AreFeatures (as_zone zone.now) has }
+    requires soa { IfSome (option_copied soa) (λ rs. rs ≡ denial_soa (as_zone zone.now)) }
     ensures { StandsFor zone.now query.now result ⊎ (result ≡ Err Memory) }
 {
     let mut reply = refused();
@@ -100,9 +100,9 @@ pub fn records<'z>(
     soa: Option<&'z [Record]>,
 ) -> Result<AuthLookup<'z>, LookupError>
     requires owners { AreOwners zone.now.origin zone.now.sets }
-    requires features { AreFeatures (zone_of zone.now) has }
-    requires soa { IfSome (option_copied soa) (λ rs. rs ≡ denial_soa (zone_of zone.now)) }
-    ensures { IsLookedUp (zone_of zone.now) name.now record_type result ⊎ (result ≡ Err Memory) }
+    requires features { AreFeatures (as_zone zone.now) has }
+    requires soa { IfSome (option_copied soa) (λ rs. rs ≡ denial_soa (as_zone zone.now)) }
+    ensures { IsLookedUp (as_zone zone.now) name.now record_type result ⊎ (result ≡ Err Memory) }
 {
     if is_soa(zone.origin(), name, record_type) {
         return Ok(AuthLookup::Records {

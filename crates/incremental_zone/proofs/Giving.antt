@@ -11,7 +11,7 @@ use Rattle.hickory_base.specs.declared.errors.UpdateFault.{UpdateFault}
 use Rattle.hickory_base.specs.declared.errors.UpdateFault.TheVariants.{Code}
 use Rattle.hickory_store.specs.updates.UpdatableZone.{UpdatableZone}
 use Rattle.hickory_store.specs.updates.Permission.{Permission, update_permission}
-use Rattle.hickory_store.specs.updates.Prerequisites.{prerequisites_refusal}
+use Rattle.hickory_store.specs.updates.Prerequisites.{prerequisite_section_refusal}
 use Rattle.hickory_store.specs.updates.Prescan.{prescan_refusal}
 use Rattle.hickory_store.specs.updates.UpdateAnswers.{AnswersUpdate, IsOutcome, Outcome, applied, unless_refused}
 use Rattle.hickory_store.specs.declared.updates.verifier.Verifier.{Ghosts}
@@ -30,7 +30,7 @@ use Rattle.hickory_base.specs.declared.zone_store.lookup.ZoneTransfer.{ZoneTrans
 use Rattle.dynamic_zone.specs.DynamicZones.{TransferAnswered}
 use Rattle.zone_differences.specs.declared.difference.Difference.{Difference}
 use Rattle.hickory_zone.specs.Handled.{names_zone}
-use Rattle.hickory_zone.specs.Replies.{zone_of}
+use Rattle.hickory_zone.specs.Replies.{as_zone}
 use Rattle.incremental_zone.specs.IncrementalZones.{GivenBy, IsHistory, IsIncremental, since_question, since_version}
 
 module _ (zone : MemoryZone) (permission : Permission) (request : ReceivedRequest) (answer : Option (Result ZoneTransfer LookupError × Option TSigResponseContext)) where
@@ -64,7 +64,7 @@ module _ {V : Type 0} (by : Ghosts V) where
       let message : UpdateMessage = update_of request.message in
       let last : Outcome = applied o z message.updates true in
       let scan : Option ℕ = prescan_refusal o message.updates in
-      let required : Option ℕ = prerequisites_refusal o z message.prerequisites in (
+      let required : Option ℕ = prerequisite_section_refusal o z message.prerequisites in (
         by_refusal scan last records
             (by_refusal required (unless_refused scan last) records
             (by_refusal (update_permission by old.verifier old.allow_update request now).refusal (unless_refused required (unless_refused scan last)) records a.0.0)),
@@ -92,8 +92,8 @@ same_history (Err fault) old new history other = refl
 -- ---- what is asked for
 
 module _ (zone : MemoryZone) (history : List Difference) (request : ReceivedRequest) (asked : Result Query LookupError) (query : Query) (is : asked ≡ Ok query) where
-  pub of_version : names_zone (zone_of zone) query ≡ true → since_question zone history request asked ≡ since_version zone history request query
+  pub of_version : names_zone (as_zone zone) query ≡ true → since_question zone history request asked ≡ since_version zone history request query
   of_version e = ap (since_question zone history request) is ∙ ap (λ b. cond b (since_version zone history request query) []) e
 
-  pub of_other : names_zone (zone_of zone) query ≡ false → since_question zone history request asked ≡ []
+  pub of_other : names_zone (as_zone zone) query ≡ false → since_question zone history request asked ≡ []
   of_other e = ap (since_question zone history request) is ∙ ap (λ b. cond b (since_version zone history request query) []) e

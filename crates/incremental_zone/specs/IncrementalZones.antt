@@ -15,7 +15,7 @@ use Rattle.hickory_store.specs.updates.Permission.{Permission, transfer_permissi
 use Rattle.hickory_store.specs.updates.TransferAnswers.{transfer_or_code}
 use Rattle.hickory_store.specs.declared.updates.verifier.Verifier.{Ghosts}
 use Rattle.hickory_zone.specs.Handled.{held_serial, is_by_soa, names_zone}
-use Rattle.hickory_zone.specs.Replies.{zone_of}
+use Rattle.hickory_zone.specs.Replies.{as_zone}
 use Rattle.dynamic_zone.specs.DynamicZones.{TransferAnswered}
 use Rattle.durable_zone.specs.DurableZones.{KeptZone}
 use Rattle.durable_zone.specs.DurableZones as durable
@@ -45,7 +45,7 @@ since_version zone history request query =
     cond (query.query_type == type_ixfr && not (is_by_soa zone request query)) (since_held (held_serial request.message.authorities) history) []
 
 abbrev pub since_question : MemoryZone → List Difference → ReceivedRequest → Result Query LookupError → List Difference
-since_question zone history request (Ok query) = cond (names_zone (zone_of zone) query) (since_version zone history request query) []
+since_question zone history request (Ok query) = cond (names_zone (as_zone zone) query) (since_version zone history request query) []
 since_question zone history request (Err e) = []
 
 -- the differences that a request asks for of the zone

@@ -233,9 +233,9 @@ writable (rdata.CNAME name) h short = no_fault (data_len (rdata.CNAME name)) sho
 writable (rdata.PTR name) h short = no_fault (data_len (rdata.PTR name)) short
 writable (rdata.MX mx) h short = no_fault (data_len (rdata.MX mx)) short
 writable (rdata.SOA soa) h short = no_fault (data_len (rdata.SOA soa)) short
-writable (rdata.TXT strings) h short = rw (short_strings strings h.1) (no_fault (data_len (rdata.TXT strings)) short)
+writable (rdata.TXT strings) h short = rw (short_strings strings h.0) (no_fault (data_len (rdata.TXT strings)) short)
 writable (rdata.OPT options) h short = no_fault (data_len (rdata.OPT options)) short
-writable (rdata.TSIG t) h short = let small : nat_le (2 ^ 48) t.time ≡ false = grind (arith, nat_tests) in rw small (no_fault (data_len (rdata.TSIG t)) short)
+writable (rdata.TSIG t) h short = let bound : t.time < 2 ^ 48 = h.0.0 in let small : nat_le (2 ^ 48) t.time ≡ false = grind (arith, nat_tests) in rw small (no_fault (data_len (rdata.TSIG t)) short)
 writable (rdata.NULL octets) h short = no_fault (data_len (rdata.NULL octets)) short
 writable (rdata.Update0 code) h short = no_fault (data_len (rdata.Update0 code)) short
 writable (rdata.Unknown code octets) h short = no_fault (data_len (rdata.Unknown code octets)) short

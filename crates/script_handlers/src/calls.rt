@@ -33,7 +33,7 @@ impl CallLog {
         })
     }
 
-    /// The same log, to be added to from another place.
+    /// Shares this log, so that it may be added to from another place.
     pub fn share(&self) -> Result<CallLog, AllocError> {
         Ok(CallLog {
             calls: self.calls.clone()?,

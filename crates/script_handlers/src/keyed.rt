@@ -107,12 +107,12 @@ pub fn keys_of(alloc: Global, words: &[&str]) -> Result<Keys, Fault>
 /// How a key is written.
 const KEY_USAGE: &str = "ALGORITHM:NAME:SECRET";
 
-/// The same, for who wrote another algorithm.
+/// How a key is written, for who wrote another algorithm.
 const ALGORITHM_USAGE: &str =
     "ALGORITHM:NAME:SECRET, by hmac-sha256|hmac-sha256-128|hmac-sha384|hmac-sha384-192|hmac-sha512|hmac-sha512-256";
 
-/// The same, for who wrote no name.
+/// How a key is written, for who wrote no name.
 const NAME_USAGE: &str = "ALGORITHM:NAME:SECRET, with the name of a key as NAME";
 
-/// The same, for who wrote no secret.
+/// How a key is written, for who wrote no secret.
 const SECRET_USAGE: &str = "ALGORITHM:NAME:SECRET, with base64 as SECRET";

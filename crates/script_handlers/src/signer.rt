@@ -80,7 +80,7 @@ fn record_with(
     })
 }
 
-/// The same, on the heap.
+/// The TSIG record with this MAC, on the heap.
 fn signature(
     alloc: Global,
     context: &TSigResponseContext,

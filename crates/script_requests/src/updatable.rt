@@ -115,7 +115,7 @@ pub fn last_updatable(zones: &Zones) -> Result<&UpdatableZone, Fault> {
     }
 }
 
-/// The same, to be set.
+/// The updatable zone last begun, to be set, unless another handler was begun or its chain was served since.
 pub fn last_updatable_mut(zones: &mut Zones) -> Result<&mut UpdatableZone, Fault> {
     if zones.zone.is_some() {
         return Err(Fault::NoUpdatable);

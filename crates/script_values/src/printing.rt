@@ -10,7 +10,7 @@ use zone_text::{FlagsText, MessageText};
 pub enum Printed {
     /// As `dig` prints them.
     Dig,
-    /// The same without the size, which does not depend on how names are written.
+    /// As `dig` prints them but without the size, so that the text does not depend on how names are written.
     Text,
     /// In hex digits.
     Hex,

@@ -24,7 +24,7 @@ use Rattle.hickory_base.specs.declared.zone_store.lookup.WholeReply.{WholeReply}
 use Rattle.hickory_store.specs.updates.Permission.{Permission, update_permission}
 use Rattle.hickory_store.specs.updates.UpdateAnswers.{AnswersUpdate}
 use Rattle.hickory_store.specs.declared.updates.verifier.Verifier.{Ghosts}
-use Rattle.hickory_zone.specs.Replies.{RepliesTo, zone_of}
+use Rattle.hickory_zone.specs.Replies.{RepliesTo, as_zone}
 use Rattle.dynamic_zone.specs.DynamicZones.{IsAnswered}
 use Rattle.incremental_zone.specs.IncrementalZones as incremental
 use Rattle.update_policy.specs.Grants.{AreGranted}
@@ -45,7 +45,7 @@ asked_above handler query = cond (is_above handler.zone.kept.updatable.zone.orig
 -- of the zone.
 abbrev pub IsGiven : MemoryZone → Query → Option MemoryZone → Result AuthLookup LookupError → Type 0
 IsGiven zone query None result = IsAnswered zone query result
-IsGiven zone query (Some parent) result = (reply : WholeReply) × RepliesTo (zone_of parent) query reply × (result ≡ Ok (lookup.Whole reply))
+IsGiven zone query (Some parent) result = (reply : WholeReply) × RepliesTo (as_zone parent) query reply × (result ≡ Ok (lookup.Whole reply))
 
 -- a search: the one question of the request is replied to, but for want of memory
 abbrev pub SearchedFor : {V D : Type 0} → UpdatedZone V D → Result Query LookupError → Flow → Type 0

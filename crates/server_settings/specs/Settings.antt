@@ -125,15 +125,15 @@ updates_in zone (Some (array ds)) = update_texts zone ds
 updates_in zone (Some d) = None
 
 -- a zone: the setting `zone`, which is `NAME=FILE`, and a setting `allow-update` for each of its rules
-abbrev pub zone_of : Option (List ℕ) → Option (List ℕ) → Option Data → Option (List Pair)
-zone_of (Some name) (Some file) updates =
+abbrev pub zone_entry : Option (List ℕ) → Option (List ℕ) → Option Data → Option (List Pair)
+zone_entry (Some name) (Some file) updates =
     join (Some (under (codes "zone") ((name ++ codes "=" ++ file) ∷ []))) (option_map (under (codes "allow-update")) (updates_in name updates))
-zone_of _ _ updates = None
+zone_entry _ _ updates = None
 
 -- the zone of a table: `name`, `file` and `update`, an array of rules
 abbrev pub zone_of_table : Data → Option (List Pair)
 zone_of_table d = cond (is_table_of (codes "file") (codes "name") (codes "update") d)
-    (zone_of (text_at (codes "name") d) (text_at (codes "file") d) (get (codes "update") d)) None
+    (zone_entry (text_at (codes "name") d) (text_at (codes "file") d) (get (codes "update") d)) None
 
 -- one zone: a table, or a text, which is the value itself
 abbrev pub zone_settings : Data → Option (List Pair)

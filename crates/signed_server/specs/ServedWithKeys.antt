@@ -24,7 +24,7 @@ use Rattle.tsig.specs.declared.judgement.Judgement.TheVariants.{FormErr, Signed,
 use Rattle.tsig.specs.declared.judgement.Verdict.TheVariants.{BadKey, BadSig, BadTime, BadTrunc, Good}
 use Rattle.tsig.specs.declared.keys.Key.{Key}
 use Rattle.signed_server.specs.KeyedServers.{KeyedServer}
-use Rattle.signed_server.specs.SignedAnswers.{IsRefused, IsSent}
+use Rattle.signed_server.specs.SignedAnswers.{IsRefused, IsSentSigned}
 use Rattle.signed_server.specs.Unread.{IsUnread}
 use Rattle.signed_server.specs.declared.service.Course.{Course}
 use Rattle.signed_server.specs.declared.service.Course.TheVariants.{Plain, Refuse, Sign}
@@ -101,7 +101,7 @@ pub data ServedWithKeys {H : Type 0} (keyed : KeyedServer H) (came : Arrival) (a
   good : {judgement : Judgement} {request : ReceivedRequest} {served : Answer} {theirs : Rules} → IsForJudging keyed.keys keyed.rules came.bytes came.source
       → Judged keyed.keys came.bytes came.now judgement → course_of judgement ≡ Sign → IsRequestOf came request
       → AreRulesFor (is_by_one_of keyed.transfer_keys judgement) keyed.rules theirs → BytesServed theirs keyed.server came served zones
-      → IsSent keyed.keys keyed.rules (record { request = request; judgement = judgement; now = came.now }) served answer → ServedWithKeys keyed came answer zones
+      → IsSentSigned keyed.keys keyed.rules (record { request = request; judgement = judgement; now = came.now }) served answer → ServedWithKeys keyed came answer zones
   -- Its signature is bad: no zone is asked.
   bad : {judgement : Judgement} {request : ReceivedRequest} {leaving : List (List ℕ)} → IsForJudging keyed.keys keyed.rules came.bytes came.source
       → Judged keyed.keys came.bytes came.now judgement → course_of judgement ≡ Refuse → IsRequestOf came request

@@ -116,9 +116,9 @@ pub record AreSent (keys : List Key) (rules : Rules) (judged : JudgedRequest) (r
   pub signed : AreSigned keys judged.judgement judged.now messages leaving last
 
 -- What leaves in the place of an answer: of its replies, these; and an answer without a reply stays.
-abbrev pub IsSent : List Key → Rules → JudgedRequest → Answer → Answer → Type 0
-IsSent keys rules judged (Replies replies) answer = (leaving : List (List ℕ)) × AreSent keys rules judged replies leaving × (answer ≡ Replies leaving)
-IsSent keys rules judged other answer = answer ≡ other
+abbrev pub IsSentSigned : List Key → Rules → JudgedRequest → Answer → Answer → Type 0
+IsSentSigned keys rules judged (Replies replies) answer = (leaving : List (List ℕ)) × AreSent keys rules judged replies leaving × (answer ≡ Replies leaving)
+IsSentSigned keys rules judged other answer = answer ≡ other
 
 -- What leaves for a request whose signature is bad: the question with the code, and a TSIG record that tells why, where
 -- the request's had its form (sections 5.2 and 5.3.2).

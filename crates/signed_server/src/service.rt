@@ -10,7 +10,7 @@ ghost use Rattle.hickory_server.specs.declared.server.rules.Rules.{Rules as Rule
 ghost use Rattle.tsig.specs.Judging.{Judged};
 ghost use Rattle.signed_server.specs.KeyedServers.{keyed_of};
 ghost use Rattle.signed_server.specs.ServedWithKeys.{AreRulesFor, CountsNoRecord, IsForJudging, IsRequestWithKeys, LeavesWithKeys, ServedWithKeys, course_of, is_by_one_of};
-ghost use Rattle.signed_server.specs.SignedAnswers.{IsSent};
+ghost use Rattle.signed_server.specs.SignedAnswers.{IsSentSigned};
 
 use crate::answers::{refused, sent};
 use crate::unread::unread;
@@ -154,7 +154,7 @@ fn serve_good<S: ReplySigner, H: ZoneHandler>(
         AreRulesFor (is_by_one_of names.now judgement.now) server.old.rules theirs ×
         BytesServed theirs (server_of H.ZoneHandler S.signature_for server.old.catalog)
         (arrival bytes.now src protocol now) served server.new.catalog.zones ×
-        IsSent keys.now server.old.rules (record { request = request.now; judgement = judgement.now; now = now })
+        IsSentSigned keys.now server.old.rules (record { request = request.now; judgement = judgement.now; now = now })
         served answer) }
     ensures err { IfErr result (λ e. LeavesWithKeys (record {
       keys = keys.now;

@@ -22,7 +22,7 @@ fn changed(queries: &Queries, edns: &Edns) -> (bool, Option<u16>, u16) {
     (has_edns, payload, id)
 }
 
-/// The same, of a reply to no question, and of a payload of 1,232 bytes.
+/// What `changed` tells of a reply to no question, and of a payload of 1,232 bytes.
 fn told(alloc: Global) -> Result<(bool, Option<u16>, u16), Fail> {
     let queries = Queries::read(alloc, &mut BinDecoder::new(b""), 0)?;
     let mut edns = Edns::new(alloc);

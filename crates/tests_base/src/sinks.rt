@@ -620,7 +620,7 @@ fn answer_and_payload(reply: &KeptReply) -> Option<(u32, u16)> {
     Some((answer.ttl, reply.edns.as_ref()?.max_payload))
 }
 
-/// The same of the reply with an address that a telling sink keeps.
+/// The TTL of the only answer and the payload of the reply with an address that a telling sink keeps.
 fn kept_answer(alloc: Global) -> Result<Option<(u32, u16)>, Fail> {
     let mut sink = TellingSink::new(alloc);
     let handed = hand_over_address(alloc, &mut sink);

@@ -57,7 +57,7 @@ fn serve_lines<R: Print + Input + Alloc<A = Global>>(
     Ok(())
 }
 
-/// The same by a server of its own.
+/// Serves the lines of the standard input by a server that is made for them.
 fn serve<R: Print + Input + Alloc<A = Global>>(rt: &R) -> Result<(), Fault> {
     let mut server = served(rt.alloc())?;
     let told = serve_lines(rt, &mut server);

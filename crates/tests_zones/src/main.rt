@@ -32,7 +32,8 @@ enum Served<'a> {
     Incremental,
     /// One that takes updates, with a journal in this file and the one beside it.
     Journalled(&'a str),
-    /// The same, which keeps what the last of them have changed, those of its journal too.
+    /// One that takes updates, with a journal in this file and the one beside it, and keeps what the last of them have
+    /// changed, those of its journal too.
     Followed(&'a str),
 }
 
@@ -42,19 +43,19 @@ fn serve_updated(alloc: Global, lines: &str, text: &mut String) -> Result<(), Fa
     serve_lines(alloc, &mut server, lines, text)
 }
 
-/// The same by a zone above another.
+/// Serves the lines of a text by a zone above another.
 fn serve_above(alloc: Global, lines: &str, text: &mut String) -> Result<(), Fault> {
     let mut server = above(alloc)?;
     serve_lines(alloc, &mut server, lines, text)
 }
 
-/// The same by a zone that keeps what its last updates have changed.
+/// Serves the lines of a text by a zone that keeps what its last updates have changed.
 fn serve_incremental(alloc: Global, lines: &str, text: &mut String) -> Result<(), Fault> {
     let mut server = incremental(alloc)?;
     serve_lines(alloc, &mut server, lines, text)
 }
 
-/// The same by a zone with a journal.
+/// Serves the lines of a text by a zone with a journal.
 fn serve_journalled(
     rt: &HostRuntime,
     path: &str,
@@ -65,7 +66,7 @@ fn serve_journalled(
     serve_lines(rt.alloc(), &mut server, lines, text)
 }
 
-/// The same by a zone with a journal that keeps what its last updates have changed.
+/// Serves the lines of a text by a zone with a journal that keeps what its last updates have changed.
 fn serve_followed(
     rt: &HostRuntime,
     path: &str,

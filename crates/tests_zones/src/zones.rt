@@ -127,7 +127,7 @@ pub fn updated(alloc: Global) -> Result<Server<Trusting, DynamicZone<Trusting>>,
 /// How many records of transfers the differences have, twice.
 const LIMIT: usize = 40;
 
-/// The same with the differences of its last updates.
+/// A server of `example.com`, which takes every update that is signed, with the differences of its last updates.
 pub fn incremental(
     alloc: Global,
 ) -> Result<Server<Trusting, IncrementalZone<Trusting, File>>, Fault> {
@@ -149,7 +149,8 @@ fn opened(rt: &HostRuntime, apex: &Name, path: &str) -> Result<DurableZone<Trust
     }
 }
 
-/// The same with the differences of the last updates of the journal.
+/// The zone `example.com` with its journal in a file and the one beside it, and with the differences of the last
+/// updates of the journal.
 fn opened_followed(
     rt: &HostRuntime,
     apex: &Name,
@@ -185,7 +186,8 @@ pub fn journalled(
     server_of(rt.alloc(), &apex, zone)
 }
 
-/// The same with the differences of its last updates, those of the journal too.
+/// A server of `example.com` with its journal in a file and the one beside it, which is compacted first, and with the
+/// differences of its last updates, those of the journal too.
 pub fn followed(
     rt: &HostRuntime,
     path: &str,

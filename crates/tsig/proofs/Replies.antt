@@ -129,7 +129,7 @@ writable name t mac labels qualified d short =
     record {
       labels = labels;
       algorithm = d.labels;
-      formed = record { name = qualified; class = lit< tt; ttl = lit< tt; rdata = (d.time, d.fudge, omega arith, d.oid, d.error, omega (arith, d.other), d.qualified); proof = refl };
+      formed = record { name = qualified; class = lit< tt; ttl = lit< tt; rdata = ((d.time, d.fudge, omega arith, d.oid, d.error, omega (arith, d.other)), d.qualified); proof = refl };
       small = omega (arith, d.other);
     }
 
@@ -262,7 +262,7 @@ record Read (s : Record TSIG) : Type 0 where
   fudge : s.rdata.fudge < 2 ^ 16
 
 read_of : (bytes : List ℕ) (place stop : ℕ) (s : Record TSIG) → RecordAt bytes place (tsig_record s) stop → Read s
-read_of bytes place stop s at = record { labels = name_labels at.owner; qualified = at.name; algorithm = name_labels at.rdata.0.algorithm; known = at.rdata.1.6; fudge = at.rdata.1.1 }
+read_of bytes place stop s at = record { labels = name_labels at.owner; qualified = at.name; algorithm = name_labels at.rdata.0.algorithm; known = at.rdata.1.1; fudge = at.rdata.1.0.1 }
 
 reply_writes : (message : List ℕ) (s : Record TSIG) (v : Verdict) (now : ℕ) (mac : List ℕ) → IsWholeMessage message → Read s → length mac ≤ 64 → IsWritable (record_of s.name (with_mac (reply_data s.rdata v now (id_of message)) mac))
 reply_writes message s v now mac w r short =

@@ -93,8 +93,8 @@ none_placed n place bytes at next r (rdata.SOA x) read e = refl
 none_placed n place bytes at next r (rdata.TXT x) read e = refl
 none_placed n place bytes at next r (rdata.OPT x) read e = refl
 none_placed n place bytes at next r (rdata.NULL x) read e = refl
-none_placed n place bytes at next r (rdata.Update0 code) (stands, (small, other, unsigned)) e = ne_eqb code 250 unsigned
-none_placed n place bytes at next r (rdata.Unknown code x) (stands, (small, some, a, b, d, f, g, h, i, j, k, l, unsigned)) e = ne_eqb code 250 unsigned
+none_placed n place bytes at next r (rdata.Update0 code) (stands, (small, (other, unsigned))) e = ne_eqb code 250 unsigned
+none_placed n place bytes at next r (rdata.Unknown code x) (stands, (small, (some, a, b, d, f, g, h, i, j, k, l, unsigned))) e = ne_eqb code 250 unsigned
 
 -- and the other way round
 no_tsig_placed : (n place : ℕ) (r : Record RData) (d : RData) → is_tsig (with_rdata r d) ≡ false → placed n place r d ≡ None

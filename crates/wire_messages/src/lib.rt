@@ -1,4 +1,5 @@
-//! What messages are made of: types, classes, records, questions, headers, EDNS, their text, and how they stand in bytes.
+//! What messages are made of: types, classes, records, questions, headers, EDNS, their text, and how they stand in
+//! bytes.
 #![tactic(auto)]
 
 pub mod named_numbers;

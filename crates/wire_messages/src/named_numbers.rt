@@ -62,7 +62,8 @@ pub fn named_classes() -> [DNSClass; 5]
     ]
 }
 
-/// The kinds of requests that have names (RFC 1035 section 4.1.1, RFC 3425, RFC 1996, RFC 2136 section 1.3, RFC 6895 section 2.2).
+/// The kinds of requests that have names (RFC 1035 section 4.1.1, RFC 3425, RFC 1996, RFC 2136 section 1.3, RFC 6895
+/// section 2.2).
 pub fn named_op_codes() -> [OpCode; 5]
     ensures { result ≡ opcode_query ∷ opcode_iquery ∷ opcode_status ∷ opcode_notify ∷ opcode_update ∷ [] }
 {
@@ -75,7 +76,8 @@ pub fn named_op_codes() -> [OpCode; 5]
     ]
 }
 
-/// The response codes that have names (RFC 1035 section 4.1.1, RFC 2136 section 2.2, RFC 6891 section 9, RFC 6895 section 2.3).
+/// The response codes that have names (RFC 1035 section 4.1.1, RFC 2136 section 2.2, RFC 6891 section 9, RFC 6895
+/// section 2.3).
 pub fn named_response_codes() -> [ResponseCode; 12]
     ensures { result ≡ code_no_error ∷ code_form_err ∷ code_serv_fail ∷ code_nx_domain ∷ code_not_imp ∷
         code_refused ∷ code_yx_domain ∷ code_yx_rrset ∷ code_nx_rrset ∷ code_not_auth ∷ code_not_zone ∷

@@ -30,8 +30,9 @@ use std::net::SocketAddr;
 fn read_lower_query(alloc: Global, decoder: &mut BinDecoder<'_>) -> Result<LowerQuery, DecodeError>
     ensures { Gives result decoder.old decoder.new question }
 {
-    let query = decoder.read_query(alloc)?;
-    Ok(LowerQuery::new(alloc, query)?)
+    let mut query = LowerQuery::of_root();
+    query.read_in_place(alloc, decoder)?;
+    Ok(query)
 }
 
 /// So many questions as a list.

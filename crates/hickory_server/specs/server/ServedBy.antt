@@ -14,7 +14,7 @@ use Rattle.hickory_catalog.specs.replies.ReplyEdns.{reply_edns}
 use Rattle.hickory_catalog.specs.requests.Requests.{RequestAnswered}
 use Rattle.hickory_catalog.specs.requests.Server.{Server}
 use Rattle.hickory_catalog.specs.transfers.WholeTransfers.{TransferReplies}
-use Rattle.hickory_server.specs.server.Cut.{IsCut}
+use Rattle.hickory_server.specs.server.Fitted.{IsFitted}
 use Rattle.hickory_server.specs.server.Ruling.{IsResponse, IsRuling, MayUse, refusal, truncation, udp_limit}
 use Rattle.hickory_server.specs.server.Serving.{IsRequestOf, LeavesUnserved}
 use Rattle.hickory_server.specs.declared.server.answer.Answer.{Answer}
@@ -26,7 +26,7 @@ use Rattle.hickory_server.specs.declared.server.serve.ServeError.{ServeError}
 
 -- What is sent of a reply over UDP: itself where it is within the limit, and else what it is cut to.
 abbrev pub IsBounded : ℕ → List ℕ → List ℕ → Type 0
-IsBounded limit reply bytes = (length bytes ≤ limit) × (length reply ≤ limit → bytes ≡ reply) × (limit < length reply → IsCut limit reply bytes)
+IsBounded limit reply bytes = (length bytes ≤ limit) × (length reply ≤ limit → bytes ≡ reply) × (limit < length reply → IsFitted limit reply bytes)
 
 -- What is sent of replies: over UDP each within the limit, and over a stream each as it is.
 abbrev pub AreSent : Protocol → ℕ → List (List ℕ) → List (List ℕ) → Type 0

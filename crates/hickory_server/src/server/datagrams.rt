@@ -7,7 +7,7 @@ ghost use Rattle.wire_messages.specs.declared.op.header.Header.{Header};
 ghost use Rattle.hickory_wire.specs.serialize.writing.ReplyParts.{ReplyEncoded};
 ghost use Rattle.hickory_base.specs.responses.EncodingSinks.{IsEncodingOf};
 ghost use Rattle.hickory_catalog.specs.replies.ReplyEdns.{reply_edns};
-ghost use Rattle.hickory_server.specs.server.Cut.{IsCut, header_alone, id_of, without_signature};
+ghost use Rattle.hickory_server.specs.server.Fitted.{IsFitted, header_alone, id_of, without_signature};
 ghost use Rattle.hickory_server.specs.server.Ruling.{truncation};
 ghost use Rattle.hickory_server.specs.server.ServedBy.{AreSent, IsBounded};
 ghost use Rattle.hickory_server.specs.server.Written.{said};
@@ -181,7 +181,7 @@ fn cut(alloc: Global, reply: Octets, src: SocketAddr, limit: u16) -> Result<Octe
     requires fits { 12 ≤ limit }
     requires long { limit < length reply }
     ensures within { IfOk result (λ bytes. length bytes ≤ limit) }
-    ensures cut { IfOk result (IsCut limit reply) }
+    ensures cut { IfOk result (IsFitted limit reply) }
 {
     let id = id_of(reply.as_slice());
     let read = Request::from_bytes(alloc, reply.into_vec(), src, Protocol::Udp);

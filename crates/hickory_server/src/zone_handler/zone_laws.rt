@@ -33,8 +33,8 @@ pub fn zones_keep<S: ReplySigner, V: Verifier>()
     updates_keep::<V>();
 }
 
-/// The same of a zone beside the zone above it: for the DS records of its apex the reply is that of the zone above (RFC
-/// 4035 section 3.1.4.1), else its own.
+/// A server that holds a zone beside the zone above it says, as one whole reply, what the zone above replies for the DS
+/// records of the apex (RFC 4035 section 3.1.4.1), and else what the zone itself replies, whatever was given for it.
 pub fn replies_beside_a_parent()
     ensures { TheReplyIsMadeBeside ⟦<ZoneWithParent as ZoneHandler>⟧ }
 {}

@@ -7,7 +7,6 @@ pub mod DataTypes
 pub mod KeptAtApex
 pub mod NamedSets
 pub mod NamesApart
-pub mod NamesInZones
 pub mod OneSoa
 pub mod RecordByRecord
 pub mod RecordTurns

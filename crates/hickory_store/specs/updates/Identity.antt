@@ -1,9 +1,8 @@
 -- The identity of a zone's records (RFC 2136 section 1.1): owner name, class, type and data, names in any letter case.
 -- A record's TTL is no part of it, so a zone has each identity at most once, with one TTL.
-use Rattle.std.specs.Prelude.{◌≡◌, ◌&&◌, ◌||◌, ℕ, nat_eq, Bool, cond, List, [], ◌∷◌, Option, Some, None}
-use Rattle.std.specs.Cmp.Lexicographic.{pointwise}
+use Rattle.std.specs.Prelude.{◌≡◌, ◌&&◌, ℕ, nat_eq, Bool, cond, List, [], ◌∷◌, Option, Some, None}
 use Rattle.wire_names.specs.rr.domain.DomainName.{DomainName}
-use Rattle.wire_names.specs.rr.domain.NameOrder.{lower_labels, name_eq}
+use Rattle.wire_names.specs.rr.domain.NameOrder.{encloses, name_eq}
 use Rattle.wire_messages.specs.contracts.rr.rdata.RDataPartialEq.TheImpl as by_data
 use Rattle.wire_messages.specs.declared.rr.rdata.RData.{RData}
 use Rattle.wire_messages.specs.declared.rr.record.Record.{Record}
@@ -25,15 +24,6 @@ ttl_at (r ∷ rs) q = cond (same_record q r) (Some r.ttl) (ttl_at rs q)
 abbrev pub SameZone : List (Record RData) → List (Record RData) → Type 0
 SameZone zone other = (q : Record RData) → ttl_at zone q ≡ ttl_at other q
 
--- the same labels, in any letter case
-abbrev pub same_labels : List (List ℕ) → List (List ℕ) → Bool
-same_labels labels others = pointwise (pointwise nat_eq) (lower_labels labels) (lower_labels others)
-
--- labels that others end in
-abbrev pub end_of : List (List ℕ) → List (List ℕ) → Bool
-end_of labels [] = same_labels labels []
-end_of labels (other ∷ others) = same_labels labels (other ∷ others) || end_of labels others
-
 -- The name lies in the zone of this origin: it is the origin, or below it (RFC 1034 section 4.2).
 abbrev pub is_in_zone : DomainName → DomainName → Bool
-is_in_zone origin name = end_of origin.labels name.labels
+is_in_zone origin name = encloses origin.labels name.labels

@@ -69,6 +69,6 @@ abbrev pub sets_match : List (Record RData) → List (Record RData) → Bool
 sets_match zone required = list_all (λ r. same_rrset (rrset required r.name (type_of r.rdata)) (rrset zone r.name (type_of r.rdata))) required
 
 -- the records one by one, and in the end the sets that were collected (section 3.2.5)
-abbrev pub prerequisites_refusal : DomainName → List (Record RData) → List (Record RData) → Option ℕ
-prerequisites_refusal origin zone records =
+abbrev pub prerequisite_section_refusal : DomainName → List (Record RData) → List (Record RData) → Option ℕ
+prerequisite_section_refusal origin zone records =
     option_or (first_refusal (prerequisite_refusal origin zone) records) (unless (sets_match zone (collected records)) code_nx_rrset)

@@ -17,7 +17,7 @@ use Rattle.hickory_base.specs.zone_store.Lookups.{SignerContext, UpdateResult}
 use Rattle.hickory_store.specs.updates.Changes.{any_change, after_updates, is_type}
 use Rattle.hickory_store.specs.updates.Identity.{SameZone}
 use Rattle.hickory_store.specs.updates.Permission.{Permission, update_permission}
-use Rattle.hickory_store.specs.updates.Prerequisites.{prerequisites_refusal}
+use Rattle.hickory_store.specs.updates.Prerequisites.{prerequisite_section_refusal}
 use Rattle.hickory_store.specs.updates.Prescan.{prescan_refusal}
 use Rattle.hickory_store.specs.updates.Serials.{next_serial}
 use Rattle.hickory_store.specs.updates.UpdatableZone.{UpdatableZone}
@@ -76,7 +76,7 @@ unless_refused (Some code) outcome = Err code
 abbrev pub message_outcome : Option ℕ → MemoryZone → UpdateMessage → Outcome
 message_outcome refusal zone message =
     unless_refused refusal
-    (unless_refused (prerequisites_refusal zone.origin (zone_records zone.sets) message.prerequisites)
+    (unless_refused (prerequisite_section_refusal zone.origin (zone_records zone.sets) message.prerequisites)
     (unless_refused (prescan_refusal zone.origin message.updates)
     (applied zone.origin (zone_records zone.sets) message.updates true)))
 

@@ -6,7 +6,7 @@ use Rattle.wire_messages.specs.Numbers.{class_in, type_a, type_any, type_axfr, t
 use Rattle.wire_messages.specs.declared.rr.rdata.RData.{RData}
 use Rattle.wire_messages.specs.declared.rr.rdata.RData.TheVariants as rdata
 use Rattle.wire_messages.specs.declared.rr.record.Record.{Record}
-use Rattle.hickory_store.specs.updates.Prerequisites.{prerequisite_refusal, prerequisites_refusal}
+use Rattle.hickory_store.specs.updates.Prerequisites.{prerequisite_refusal, prerequisite_section_refusal}
 use Rattle.hickory_store.specs.updates.Prescan.{update_refusal}
 
 -- example.com.
@@ -71,7 +71,7 @@ at_address name n = record_of name class_in 0 (address n)
 
 -- what a list of prerequisites is answered
 abbrev pub required : List (Record RData) → Option ℕ
-required records = prerequisites_refusal origin zone records
+required records = prerequisite_section_refusal origin zone records
 
 -- what one prerequisite without data is answered, for each type
 abbrev pub required_of : DomainName → ℕ → List ℕ → List (Option ℕ)

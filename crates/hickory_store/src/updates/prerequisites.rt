@@ -3,7 +3,7 @@
 ghost use Rattle.std.specs.Prelude.{◌≡◌, ◌==◌, IfOk};
 ghost use Rattle.wire_messages.specs.rr.RecordData.{type_of};
 ghost use Rattle.hickory_base.specs.zone_store.ZoneSets.{zone_records};
-ghost use Rattle.hickory_store.specs.updates.Prerequisites.{absence_refusal, class_refusal, existence_refusal, name_is_in_use, prerequisite_refusal, prerequisites_refusal, rrset_exists};
+ghost use Rattle.hickory_store.specs.updates.Prerequisites.{absence_refusal, class_refusal, existence_refusal, name_is_in_use, prerequisite_refusal, prerequisite_section_refusal, rrset_exists};
 ghost use Rattle.hickory_store.specs.updates.Refusals.{Tells, first_refusal, unless};
 
 use crate::updates::handler::UpdatableZoneHandler;
@@ -113,7 +113,7 @@ fn verify(
     zone: &InMemoryZoneHandler,
     prerequisites: &[Record],
 ) -> Result<(), UpdateFault>
-    ensures { Tells (prerequisites_refusal zone.now.origin (zone_records zone.now.sets) prerequisites.now) result }
+    ensures { Tells (prerequisite_section_refusal zone.now.origin (zone_records zone.now.sets) prerequisites.now) result }
 {
     check_all(alloc, zone, prerequisites)?;
     require(
@@ -136,7 +136,7 @@ impl<V: Verifier> UpdatableZoneHandler<V> {
         alloc: Global,
         prerequisites: &[Record],
     ) -> Result<(), UpdateFault>
-        ensures { Tells (prerequisites_refusal self.now.zone.origin
+        ensures { Tells (prerequisite_section_refusal self.now.zone.origin
             (zone_records self.now.zone.sets) prerequisites.now) result }
     {
         verify(alloc, &self.in_memory, prerequisites)

@@ -136,7 +136,7 @@ fn failed_at(
     Ok((replies, failures, code, answers))
 }
 
-/// The same for a transfer, and a sink that fails at the second reply or, as there are three, never.
+/// What two sinks have of a transfer: one that fails at the second reply, and one that, as there are three, never does.
 fn transferred(
     alloc: Global,
     catalog: &mut Catalog<NoSigner, InMemoryZoneHandler>,
@@ -148,7 +148,7 @@ fn transferred(
     Ok([second?, never?])
 }
 
-/// The same, of a catalog of its own.
+/// What `transferred` tells of a catalog that is made for it.
 fn told(alloc: Global) -> Result<[(usize, u64, ResponseCode, u16); 2], Fail> {
     let mut catalog = catalog(alloc)?;
     let told = transferred(alloc, &mut catalog);

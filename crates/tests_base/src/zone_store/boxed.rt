@@ -197,7 +197,7 @@ fn tells_state<H: ZoneHandler>(handler: &H, origin: &LowerName) -> [bool; 5] {
     ]
 }
 
-/// The same of a box.
+/// Whether a box tells each thing that its handler is.
 fn state(alloc: Global) -> Result<[bool; 5], Fail> {
     let origin = lower(alloc, "example.com.")?;
     let handler: Box<dyn ZoneHandler> = Box::new(alloc, unasked(alloc)?)?;
@@ -241,7 +241,7 @@ fn answers<H: ZoneHandler>(alloc: Global, handler: &H) -> Result<(Word, (Word, M
     Ok((looked_up?, found))
 }
 
-/// The same of a box.
+/// What a box answers to a lookup and to a search for `QUERY`, and the moment that the search tells.
 fn asked(alloc: Global) -> Result<(Word, (Word, Moment)), Fail> {
     let handler: Box<dyn ZoneHandler> = Box::new(alloc, unasked(alloc)?)?;
     let told = answers(alloc, &handler);
@@ -265,7 +265,7 @@ fn consulted<H: ZoneHandler>(alloc: Global, handler: &H) -> (Word, Moment) {
     (last_word(answer), moment(context))
 }
 
-/// The same of a box.
+/// What a box answers to a consult, and the moment that is told with it.
 fn box_consulted(alloc: Global) -> Result<(Word, Moment), Fail> {
     let handler: Box<dyn ZoneHandler> = Box::new(alloc, unasked(alloc)?)?;
     let told = consulted(alloc, &handler);
@@ -327,7 +327,7 @@ fn told_of_changes<H: ZoneHandler>(
     Ok((moment, answers))
 }
 
-/// The same of a box.
+/// What a box answers to a transfer and to both updates.
 fn box_changed(alloc: Global) -> Result<(Moment, [bool; 4]), Fail> {
     let mut handler: Box<dyn ZoneHandler> = Box::new(alloc, unasked(alloc)?)?;
     let told = told_of_changes(alloc, &mut handler);

@@ -47,7 +47,7 @@ fn word(answer: &LookupControlFlow<AuthLookup<'_>>) -> Word {
     }
 }
 
-/// The same word, of an answer that is not used any more.
+/// The word for an answer that is not used any more, which is dropped.
 pub(crate) fn last_word(answer: LookupControlFlow<AuthLookup<'_>>) -> Word {
     let told = word(&answer);
     drop(answer);

@@ -54,7 +54,7 @@ fn found_behind(alloc: Global, zone: &mut InMemoryZoneHandler) -> Result<(Word, 
     Ok((old, new))
 }
 
-/// The same, of a zone of its own.
+/// The words for both names, once the sets of a zone that is made for it were replaced.
 fn replaced(alloc: Global) -> Result<(Word, Word), Fail> {
     let mut zone = zone(alloc)?;
     let told = found_behind(alloc, &mut zone);
@@ -100,8 +100,8 @@ fn answered<H: ZoneHandler>(alloc: Global, handler: &H, bytes: &[u8]) -> Result<
     Ok(told)
 }
 
-/// The same for a name that is there, for one with other records, and for one that is not there; and the word for the
-/// SOA.
+/// The words for what a handler answers for a name that is there, for one with other records, and for one that is not
+/// there; and the word for the SOA.
 fn all_answered<H: ZoneHandler>(alloc: Global, handler: &H) -> Result<([Word; 3], Word), Fail> {
     let words = [
         answered(alloc, handler, &QUERY)?,

@@ -1,4 +1,5 @@
--- When two questions are the same: in name, type and class, names in any letter case (RFC 1035 sections 2.3.3 and 4.1.2).
+-- When two questions are the same: in name, type and class, names in any letter case (RFC 1035 sections 2.3.3 and
+-- 4.1.2).
 use Rattle.std.specs.Prelude.{◌≡◌}
 use Rattle.wire_names.specs.rr.domain.NameOrder.{SameName}
 use Rattle.wire_messages.specs.declared.op.query.Query.{Query}

@@ -31,8 +31,8 @@ pub data OptionsOf (octets : List ℕ) : List EdnsOption → Type 0 where
 abbrev pub soa_numbers : SOA → List ℕ
 soa_numbers soa = to_be_bytes w32 soa.serial ++ to_be_bytes w32 soa.refresh ++ to_be_bytes w32 soa.retry ++ to_be_bytes w32 soa.expire ++ to_be_bytes w32 soa.minimum
 
--- what stands behind the algorithm of a TSIG: the time in 48 bits, fudge, MAC with its length, original id, error, and other
--- data with their length (RFC 8945 section 4.2)
+-- what stands behind the algorithm of a TSIG: the time in 48 bits, fudge, MAC with its length, original id, error, and
+-- other data with their length (RFC 8945 section 4.2)
 abbrev pub tsig_fields : TSIG → List ℕ
 tsig_fields t = to_be_bytes w16 (t.time / 2 ^ 32) ++ to_be_bytes w32 (t.time % 2 ^ 32) ++ to_be_bytes w16 t.fudge ++ to_be_bytes w16 (length t.mac) ++ t.mac
     ++ to_be_bytes w16 t.oid ++ to_be_bytes w16 t.error ++ to_be_bytes w16 (length t.other) ++ t.other

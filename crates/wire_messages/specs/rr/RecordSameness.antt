@@ -1,5 +1,5 @@
--- When two records are the same: owner name, class, type and data agree, names in any letter case; the TTL is not compared
--- (RFC 2136 section 1.1, RFC 1035 section 2.3.3).
+-- When two records are the same: owner name, class, type and data agree, names in any letter case; the TTL is not
+-- compared (RFC 2136 section 1.1, RFC 1035 section 2.3.3).
 use Rattle.std.specs.Prelude.{◌≡◌}
 use Rattle.wire_names.specs.rr.domain.NameOrder.{lower_name, SameName}
 use Rattle.wire_messages.specs.declared.rr.rdata.MX.{MX}

@@ -1,4 +1,5 @@
-//! Laws of the comparisons of headers, questions, options and signatures, each the contract of a function with nothing to do.
+//! Laws of the comparisons of headers, questions, options and signatures, each the contract of a function with nothing
+//! to do.
 
 ghost use Rattle.std.specs.Prelude.{◌≡◌, ◌↔◌, IsTrue, ℕ};
 ghost use Rattle.wire_messages.specs.op.EdnsFields.{EdnsFields};

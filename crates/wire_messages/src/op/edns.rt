@@ -140,7 +140,8 @@ impl Edns {
         self.dnssec_ok
     }
 
-    /// The fifteen flags behind DO, which are kept as they were read. A sender leaves them zero (RFC 6891 section 6.1.4, Z).
+    /// The fifteen flags behind DO, which are kept as they were read. A sender leaves them zero (RFC 6891 section
+    /// 6.1.4, Z).
     pub fn reserved_flags(&self) -> u16
         ensures value { result ≡ self.now.reserved_flags }
         ensures in_range { result < 2 ^ 15 }

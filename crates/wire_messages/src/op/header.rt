@@ -15,7 +15,8 @@ pub enum MessageType {
     Response,
 }
 
-/// The header without its counts (RFC 1035 section 4.1.1; AD and CD: RFC 4035 section 3.2), with the whole response code.
+/// The header without its counts (RFC 1035 section 4.1.1; AD and CD: RFC 4035 section 3.2), with the whole response
+/// code.
 #[derive(Clone, Copy, Debug, PartialEq, Eq)]
 pub struct Metadata {
     /// The number by which the client knows the reply.

@@ -4,8 +4,8 @@ ghost use Rattle.std.specs.Prelude.{◌≡◌, ◌<◌, ◌+◌, ◌*◌, ◌/�
 
 use std::marker::Model;
 
-/// The number of a response code, of twelve bits: four in the header (RFC 1035 section 4.1.1), and above them eight in the
-/// OPT record (RFC 6891 section 6.1.3).
+/// The number of a response code, of twelve bits: four in the header (RFC 1035 section 4.1.1), and above them eight in
+/// the OPT record (RFC 6891 section 6.1.3).
 #[derive(Clone, Copy, Debug, PartialEq, Eq)]
 pub struct ResponseCode {
     value: u16,
@@ -40,7 +40,8 @@ impl ResponseCode {
     pub const YX_RRSET: ResponseCode = ResponseCode { value: 7 };
     /// An RRset that should exist does not (RFC 2136 section 2.2).
     pub const NX_RRSET: ResponseCode = ResponseCode { value: 8 };
-    /// The server has no authority for the zone, or the request is not authorized (RFC 2136 section 2.2, RFC 8945 section 5.2).
+    /// The server has no authority for the zone, or the request is not authorized (RFC 2136 section 2.2, RFC 8945
+    /// section 5.2).
     pub const NOT_AUTH: ResponseCode = ResponseCode { value: 9 };
     /// A name is not in the zone (RFC 2136 section 2.2).
     pub const NOT_ZONE: ResponseCode = ResponseCode { value: 10 };

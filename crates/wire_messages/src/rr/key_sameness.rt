@@ -9,8 +9,8 @@ use crate::rr::rr_key::RrKey;
 use std::hash::Hash;
 use wire_names::rr::domain::name_sameness::name_comparisons;
 
-/// Keys are ordered by name, and then by type. They are equal where this order has them equal, which is where their names
-/// are the same in any letter case, and their types; and keys that are equal hash alike.
+/// Keys are ordered by name, and then by type. They are equal where this order has them equal, which is where their
+/// names are the same in any letter case, and their types; and keys that are equal hash alike.
 pub fn key_comparisons()
     ensures ordered { (a b : Key) → ⟦<RrKey as Ord>⟧.cmp a b ≡ key_cmp a b }
     ensures equal { (a b : Key) → IsTrue (⟦<RrKey as PartialEq>⟧.eq a b) ↔ SameKey a b }

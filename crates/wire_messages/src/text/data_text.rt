@@ -109,10 +109,11 @@ fn write_tsig<W: fmt::Write>(f: &mut fmt::Formatter<W>, signature: &TSIG) -> fmt
     write!(f, "{:04X}{}", signature.other.len(), &signature.other)
 }
 
-/// The data as the text of a zone has them (RFC 1035 section 5.1): addresses, names and numbers, and character strings in quotes.
+/// The data as the text of a zone has them (RFC 1035 section 5.1): addresses, names and numbers, and character strings
+/// in quotes.
 ///
-/// Data of the other types, and of OPT, TSIG and NULL, are `\#`, their length and hexadecimal digits (RFC 3597 section 5); data of no
-/// bytes are `\# 0`.
+/// Data of the other types, and of OPT, TSIG and NULL, are `\#`, their length and hexadecimal digits (RFC 3597 section
+/// 5); data of no bytes are `\# 0`.
 impl fmt::Display for RData {
     fn fmt<W: fmt::Write>(&self, f: &mut fmt::Formatter<W>) -> fmt::Result {
         match self {

@@ -7,8 +7,8 @@ use crate::rr::record_type::RecordType;
 use crate::rr::tsig::TSIG;
 use std::fmt;
 
-/// The record as a line of a zone's text, without an end of line (RFC 1035 section 5.1): owner name, TTL, class, type, data,
-/// with a space between.
+/// The record as a line of a zone's text, without an end of line (RFC 1035 section 5.1): owner name, TTL, class, type,
+/// data, with a space between.
 impl fmt::Display for Record<RData> {
     fn fmt<W: fmt::Write>(&self, f: &mut fmt::Formatter<W>) -> fmt::Result {
         write!(f, "{} {} {} ", &self.name, self.ttl, self.dns_class)?;

@@ -1,4 +1,5 @@
--- Names as bytes that compare as the names do, so that a map compares keys byte by byte (the order is that of RFC 4034, section 6.1).
+-- Names as bytes that compare as the names do, so that a map compares keys byte by byte (the order is that of RFC 4034,
+-- section 6.1).
 use Rattle.std.specs.Prelude.{◌≡◌, ℕ, zero, suc, ◌+◌, ◌-◌, ◌<◌, ◌≤◌, List, [], ◌∷◌, ◌++◌, length, get_or, take, drop, replicate, reverse}
 use Rattle.std.specs.Slice.Scan.{big_endian}
 
@@ -26,8 +27,8 @@ word_behind place bytes = big_endian 0 (take 8 (drop place bytes ++ replicate 8 
 unfoldable pub order_word : List (List ℕ) → List (List ℕ) → ℕ
 order_word above labels = word_behind (length (order_key above)) (order_key labels)
 
--- So many bytes at the front of a key stand at the front of the other one too, and end a label of it. They are not the whole
--- key, unless that is empty, and no greater number of its bytes is such.
+-- So many bytes at the front of a key stand at the front of the other one too, and end a label of it. They are not the
+-- whole key, unless that is empty, and no greater number of its bytes is such.
 pub record IsSharedFront (key other : List ℕ) (count : ℕ) : Type 0 where
   pub within : count ≤ length key
   pub short : 0 < length key → count < length key

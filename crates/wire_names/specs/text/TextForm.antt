@@ -3,7 +3,8 @@ use Rattle.std.specs.Prelude.{ℕ, ◌+◌, ◌/◌, ◌%◌, ◌==◌, ◌||◌
 use Rattle.std.specs.List.{flat_map}
 use Rattle.wire_names.specs.rr.domain.DomainName.{DomainName}
 
--- The byte has a meaning of its own, so that a backslash stands before it: `"` and `\`, and outside of quotes `$`, `(`, `)`, `.`, `;` and `@`.
+-- The byte has a meaning of its own, so that a backslash stands before it: `"` and `\`, and outside of quotes `$`, `(`,
+-- `)`, `.`, `;` and `@`.
 abbrev pub is_special : Bool → ℕ → Bool
 is_special quoted b =
     b == 34 || b == 92
@@ -31,8 +32,8 @@ abbrev pub labels_text : List (List ℕ) → List ℕ
 labels_text [] = []
 labels_text (l ∷ ls) = bytes_text false l ++ flat_map (λ m. 46 ∷ bytes_text false m) ls
 
--- The name as it is printed: its labels, and a final dot where it is fully qualified. The root is `.`, and `@` is the name of no labels
--- that is not fully qualified.
+-- The name as it is printed: its labels, and a final dot where it is fully qualified. The root is `.`, and `@` is the
+-- name of no labels that is not fully qualified.
 abbrev pub spelled_name : DomainName → List ℕ
 spelled_name name = spelled name.labels name.is_fqdn where
   spelled : List (List ℕ) → Bool → List ℕ

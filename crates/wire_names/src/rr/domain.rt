@@ -8,4 +8,3 @@ pub mod name_display;
 pub mod name_sameness;
 pub mod name_text;
 pub mod order_key;
-pub mod wire;

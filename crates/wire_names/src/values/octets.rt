@@ -37,7 +37,8 @@ impl Octets {
         })
     }
 
-    /// Puts a copy of these bytes in the place of its own, whose memory is used again. Where memory is refused, it has none.
+    /// Puts a copy of these bytes in the place of its own, whose memory is used again. Where memory is refused, it has
+    /// none.
     pub fn set(&mut self, bytes: &[u8]) -> Result<(), AllocError>
         ensures done { OnOk result (self.new ≡ bytes.now) }
         ensures emptied { OnErr result (self.new ≡ []) }

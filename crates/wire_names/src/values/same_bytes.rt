@@ -4,7 +4,7 @@ ghost use Rattle.std.specs.Prelude.{◌≡◌, ◌↔◌, ◌≤◌, length, tak
 
 use crate::values::words::{WORD_LEN, word_at};
 
-// Whether their first eight bytes are the same, where they have as many.
+/// Whether their first eight bytes are the same, where they have as many.
 #[inline(always)]
 fn may_be_same(a: &[u8], b: &[u8]) -> bool
     requires { length a.now ≡ length b.now }
@@ -14,7 +14,8 @@ fn may_be_same(a: &[u8], b: &[u8]) -> bool
     a.len() < WORD_LEN || word_at(a, 0) == word_at(b, 0)
 }
 
-// Whether bytes of one length are the same behind the first eight. The last eight are compared at once, with some of those before them a second time.
+/// Whether bytes of one length are the same behind the first eight. The last eight are compared at once, with some of
+/// those before them a second time.
 #[inline(always)]
 fn have_same_rest(a: &[u8], b: &[u8]) -> bool
     requires len { length a.now ≡ length b.now }

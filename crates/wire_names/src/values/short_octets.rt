@@ -2,7 +2,7 @@
 
 ghost use Rattle.std.specs.Prelude.{◌≡◌, [], IfOk, OnOk};
 
-use crate::rr::domain::wire::{ShortBytes, Wire};
+use crate::values::wire::{ShortBytes, Wire};
 use std::alloc::{AllocError, Global};
 use std::marker::Model;
 

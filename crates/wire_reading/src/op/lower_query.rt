@@ -36,8 +36,8 @@ fn read_parts(
 
 /// A question with its name in lower case beside the name as it was sent.
 ///
-/// The lower-case name lies in a key, so that records of it are found without a key made for that. A contract sees the question as
-/// it was sent.
+/// The lower-case name lies in a key, so that records of it are found without a key made for that. A contract sees the
+/// question as it was sent.
 #[derive(Debug, Drop)]
 pub struct LowerQuery {
     original: Query,

@@ -5,7 +5,6 @@ use Rattle.std.specs.Iterator.{Drains}
 use Rattle.wire_names.specs.rr.domain.DomainName.{wire_form}
 use Rattle.wire_writing.specs.representation.Noted.{Notes, AreNotes, KeepsNotes, Compresses}
 use Rattle.wire_messages.specs.serialize.writing.RecordSize.{full_size, unwritable_reason}
-use Rattle.wire_writing.specs.serialize.writing.Writing as writing
 use Rattle.wire_writing.specs.serialize.writing.Writing.{Puts, ListFront, ListsWritten}
 use Rattle.wire_names.specs.declared.error.ProtoError.{ProtoError}
 use Rattle.wire_writing.specs.declared.serialize.writing.list_encoder.Stops.{Stops}
@@ -37,12 +36,6 @@ NotesFollow old r new notes notes' (Stuck e) = notes' ≡ notes
 abbrev pub NotedRun : ℕ → List ℕ → Notes → List (Record RData) → List ℕ → Notes → Type 0
 NotedRun limit old notes [] new notes' = (new ≡ old) × (notes' ≡ notes)
 NotedRun limit old notes (r ∷ rs) new notes' = (middle : List ℕ) × (between : Notes) × Puts limit old r middle × OwnerNoted old r middle notes between × NotedRun limit middle between rs new notes'
-
--- the ending as the relation of what may be written has it
-abbrev pub seen_ending : Ending → writing.ListEnding
-seen_ending Whole = writing.ListEnding.whole
-seen_ending Cut = writing.ListEnding.cut
-seen_ending (Stuck e) = writing.ListEnding.stuck e
 
 -- The iterator gives these records, one after another, and ends.
 abbrev pub GivesRecords : {S : Type 0} → (S → Option (Bor (Record RData)) → S → Type 0) → S → List (Record RData) → Type 0

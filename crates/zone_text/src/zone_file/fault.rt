@@ -80,7 +80,7 @@ fn line_and_column(text: &[u8], place: usize) -> (usize, usize)
 }
 
 impl EntryError {
-    /// The same fault of an entry that stands from one place to another, told no place outside of them.
+    /// This fault of an entry that stands from one place to another, told at no place outside of them.
     pub(crate) fn within(self, start: usize, end: usize) -> EntryError
         requires { start ≤ end }
         ensures { IsMovedInto start end self result }

@@ -10,7 +10,7 @@ use Rattle.hickory_base.specs.zone_store.Lookups.{UpdateResult}
 use Rattle.hickory_store.specs.updates.Changes.{any_change, after_updates, after_record}
 use Rattle.hickory_store.specs.updates.Identity.{SameZone, ttl_at}
 use Rattle.hickory_store.specs.updates.Permission.{update_permission}
-use Rattle.hickory_store.specs.updates.Prerequisites.{prerequisites_refusal}
+use Rattle.hickory_store.specs.updates.Prerequisites.{prerequisite_section_refusal}
 use Rattle.hickory_store.specs.updates.Prescan.{prescan_refusal}
 use Rattle.hickory_store.specs.updates.Replays.{IsEntry, Journalled, Replays}
 use Rattle.hickory_store.specs.updates.UpdatableZone.{UpdatableZone}
@@ -34,7 +34,7 @@ message_ok refusal zone message records changed h =
     let old = zone_records zone.sets in
     let last : Outcome = applied zone.origin old message.updates true in
     let scan = prescan_refusal zone.origin message.updates in
-    let required = prerequisites_refusal zone.origin old message.prerequisites in
+    let required = prerequisite_section_refusal zone.origin old message.prerequisites in
     unless_ok scan last records changed (unless_ok required (unless_refused scan last) records changed (unless_ok refusal (unless_refused required (unless_refused scan last)) records changed h))
 
 module _ (identity : Identity) (same_type : OfOneType) where

@@ -10,7 +10,7 @@ use Rattle.hickory_base.specs.zone_store.Lookups.{SignerContext, UpdateResult}
 use Rattle.hickory_store.specs.updates.Changes.{any_change, after_updates}
 use Rattle.hickory_store.specs.updates.Identity.{SameZone}
 use Rattle.hickory_store.specs.updates.Permission.{update_permission}
-use Rattle.hickory_store.specs.updates.Prerequisites.{prerequisites_refusal}
+use Rattle.hickory_store.specs.updates.Prerequisites.{prerequisite_section_refusal}
 use Rattle.hickory_store.specs.updates.Prescan.{prescan_refusal}
 use Rattle.hickory_store.specs.updates.UpdatableZone.{UpdatableZone}
 use Rattle.hickory_store.specs.updates.UpdateAnswers.{AnswersUpdate, IsOutcome, Outcome, Updates, UpdatesAll, applied, incremented, is_apex_soa, message_outcome, unless_refused, with_next_serial}
@@ -41,8 +41,8 @@ module _ (Holds : DomainName → Records → Type 0) (folds : (o : DomainName) (
       let records = zone_records zone.sets in
       let last : Outcome = applied zone.origin records message.updates true in
       let scan = prescan_refusal zone.origin message.updates in
-      unless_left zone.origin refusal (unless_refused (prerequisites_refusal zone.origin records message.prerequisites) (unless_refused scan last))
-      (unless_left zone.origin (prerequisites_refusal zone.origin records message.prerequisites) (unless_refused scan last)
+      unless_left zone.origin refusal (unless_refused (prerequisite_section_refusal zone.origin records message.prerequisites) (unless_refused scan last))
+      (unless_left zone.origin (prerequisite_section_refusal zone.origin records message.prerequisites) (unless_refused scan last)
       (unless_left zone.origin scan last (changed_left zone.origin message.updates records (any_change zone.origin records message.updates) h)))
 
   outcome_left : (o : DomainName) (outcome : Outcome) (records : Records) (changed : Bool) → Left o outcome → IsOutcome outcome records changed → Holds o records

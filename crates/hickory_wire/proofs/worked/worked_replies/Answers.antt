@@ -4,7 +4,8 @@ use Rattle.wire_messages.specs.serialize.layout.MessageLayout.{tsig_record}
 use Rattle.wire_messages.specs.serialize.writing.Reply.{opt_record}
 use Rattle.hickory_wire.specs.worked.Worked.{a_record, signature_record}
 use Rattle.hickory_wire.specs.worked.WorkedReplies.{www_answer, www_answer_bytes, www_reply, www_reply_in_full, www_reply_compressed, dnssec_ok_fields, dnssec_ok_reply, dnssec_ok_bytes, bad_version_fields, bad_version_reply, bad_version_bytes, signed_reply, signed_bytes, long_reply, hundred_answers, thirty_answers}
-use Rattle.wire_writing.specs.serialize.writing.Writing.{Puts, PutsRepeating, ListFront, ListWritten, ListsWritten, cut, ending_of, header_and_questions}
+use Rattle.wire_writing.specs.serialize.writing.Writing.{Puts, PutsRepeating, ListFront, ListWritten, ListsWritten, ending_of, header_and_questions}
+use Rattle.wire_writing.specs.declared.serialize.writing.record_encoder.Ending.TheVariants.{Cut}
 use Rattle.wire_writing.specs.serialize.writing.Writing.ListsWritten.{none_left, next_list}
 use Rattle.wire_messages.specs.serialize.writing.RecordSize.{full_size}
 use Rattle.wire_messages.specs.declared.rr.rdata.RData.{RData}
@@ -76,7 +77,7 @@ first_list : {limit : ℕ} {records : List (Record RData)} {lists : List (List (
 first_list (next_list {middle = middle} written others) = (middle, written)
 
 -- of the reply's one answer, none is left out where there is room for it
-not_cut : (middle : List ℕ) → ListWritten 64 (header_and_questions www_reply) (www_answer ∷ []) middle 0 cut → ⊥
+not_cut : (middle : List ℕ) → ListWritten 64 (header_and_questions www_reply) (www_answer ∷ []) middle 0 Cut → ⊥
 not_cut middle written =
     let at_start : length middle ≡ 33 = ap length written.puts in
     let next : www_answer ≡ written.ends.next = cc in

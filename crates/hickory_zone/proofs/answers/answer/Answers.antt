@@ -4,14 +4,14 @@ use Rattle.wire_names.specs.rr.domain.NameOrder.{lower_name}
 use Rattle.hickory_zone.proofs.lemmas.replies.Handling.{into_zone, out_of_zone}
 use Rattle.hickory_zone.proofs.lemmas.replies.Hosts.{on_ok}
 use Rattle.hickory_zone.specs.Chains.{IsIn}
-use Rattle.hickory_zone.specs.Replies.{IsReplied, RepliesTo, is_class, refuses, replies, zone_of}
+use Rattle.hickory_zone.specs.Replies.{IsReplied, RepliesTo, is_class, refuses, replies, as_zone}
 use Rattle.hickory_zone.proofs.answers.answer.Goals as goal
 use Rattle.hickory_zone.proofs.answers.answer.Goals.{then-not-is_class-via-then-not-is_class, then-not-is_class-via-else-not-is_class+then-not-is_in}
 
 pub returns-then-not-is_class : goal.returns-then-not-is_class
 returns-then-not-is_class c =
     let zone = c.args.zone.now in
-    subst (RepliesTo (zone_of zone) c.args.query.now) (sym c.refused.ensures)
+    subst (RepliesTo (as_zone zone) c.args.query.now) (sym c.refused.ensures)
     (refuses (λ own. elim c.then-not-is_class.branch [
       | then-not-is_class-via-then-not-is_class w ↦
           let f : c.is_class.result ≡ false = w.if-not-is_class.true in
@@ -25,7 +25,7 @@ pub put_within-requires-clause-within : goal.put_within-requires-clause-within
 put_within-requires-clause-within c =
     let zone = c.args.zone.now in
     let e : c.is_in.result ≡ true = c.if-not-is_in.false in
-    subst (λ k. IsIn (zone_of zone) k.name) (sym c.first_key.ensures)
+    subst (λ k. IsIn (as_zone zone) k.name) (sym c.first_key.ensures)
     (into_zone zone c.origin.result.now c.name.result.now (lower_name c.args.query.now.name) c.origin.ensures c.name.ensures ((c.is_in.ensures zone.sets).0 e))
 
 pub returns : goal.returns
@@ -39,4 +39,4 @@ returns c =
       within = into_zone zone c.origin.result.now c.name.result.now (lower_name c.args.query.now.name) c.origin.ensures c.name.ensures ((c.is_in.ensures zone.sets).0 e);
       class = ap is_class (sym c.query_class.ensures) ∙ sym c.is_class.ensures ∙ f;
     })
-    (subst (λ t. IsReplied (zone_of zone) c.args.query.now.name t reply) c.query_type.ensures (subst (λ q. IsReplied (zone_of zone) q.name c.query_type.result reply) c.original.ensures x)))
+    (subst (λ t. IsReplied (as_zone zone) c.args.query.now.name t reply) c.query_type.ensures (subst (λ q. IsReplied (as_zone zone) q.name c.query_type.result reply) c.original.ensures x)))

@@ -3,21 +3,21 @@ use Rattle.std.proofs.lemmas.Bool.{false≢true}
 use Rattle.hickory_zone.proofs.lemmas.replies.Handling.{from_lower, in_lower, into_zone, out_of_zone}
 use Rattle.hickory_zone.specs.Chains.{IsIn}
 use Rattle.hickory_zone.specs.Handled.{question}
-use Rattle.hickory_zone.specs.Replies.{IsReplied, RepliesTo, refuses, replies, zone_of}
+use Rattle.hickory_zone.specs.Replies.{IsReplied, RepliesTo, refuses, replies, as_zone}
 use Rattle.hickory_zone.proofs.answers.reply_to.Goals as goal
 
 pub returns-then-not-is_in : goal.returns-then-not-is_in
 returns-then-not-is_in c =
     let zone = c.args.zone.now in
     let f : c.is_in.result ≡ false = c.if-not-is_in.true in
-    subst (RepliesTo (zone_of zone) (question c.args.name.now c.args.record_type)) (sym c.refused-reply.ensures)
-    (refuses (λ own. false≢true (sym f ∙ (c.is_in.ensures zone.sets).1 (out_of_zone zone c.origin.result.now c.args.name.now c.args.name.now c.origin.ensures refl (from_lower (zone_of zone) c.args.name.now own.within)))))
+    subst (RepliesTo (as_zone zone) (question c.args.name.now c.args.record_type)) (sym c.refused-reply.ensures)
+    (refuses (λ own. false≢true (sym f ∙ (c.is_in.ensures zone.sets).1 (out_of_zone zone c.origin.result.now c.args.name.now c.args.name.now c.origin.ensures refl (from_lower (as_zone zone) c.args.name.now own.within)))))
 
 pub put_within-requires-clause-within : goal.put_within-requires-clause-within
 put_within-requires-clause-within c =
     let zone = c.args.zone.now in
     let e : c.is_in.result ≡ true = c.if-not-is_in.false in
-    subst (IsIn (zone_of zone)) (sym (ap (λ k. k.name) c.new-first.ensures ∙ c.in_ok-clone.ensures.cases))
+    subst (IsIn (as_zone zone)) (sym (ap (λ k. k.name) c.new-first.ensures ∙ c.in_ok-clone.ensures.cases))
     (into_zone zone c.origin.result.now c.args.name.now c.args.name.now c.origin.ensures refl ((c.is_in.ensures zone.sets).0 e))
 
 pub returns : goal.returns
@@ -26,7 +26,7 @@ returns c =
     let e : c.is_in.result ≡ true = c.if-not-is_in.false in
     let reply = c.put_within.new.reply in
     replies (record {
-      within = in_lower (zone_of zone) c.args.name.now (into_zone zone c.origin.result.now c.args.name.now c.args.name.now c.origin.ensures refl ((c.is_in.ensures zone.sets).0 e));
+      within = in_lower (as_zone zone) c.args.name.now (into_zone zone c.origin.result.now c.args.name.now c.args.name.now c.origin.ensures refl ((c.is_in.ensures zone.sets).0 e));
       class = refl;
     })
-    (subst (λ n. IsReplied (zone_of zone) n c.args.record_type reply) c.as_name-name.ensures.name c.in_ok-put_within.ensures)
+    (subst (λ n. IsReplied (as_zone zone) n c.args.record_type reply) c.as_name-name.ensures.name c.in_ok-put_within.ensures)

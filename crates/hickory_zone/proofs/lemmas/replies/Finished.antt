@@ -7,10 +7,10 @@ use Rattle.hickory_base.specs.zone_store.ZoneAnswers.{MemoryZone}
 use Rattle.hickory_zone.specs.Chains.{Chases, ends, finishes, step}
 use Rattle.hickory_zone.specs.Endings.{Ending}
 use Rattle.hickory_zone.specs.representation.ChainEnds.{Chased}
-use Rattle.hickory_zone.specs.Replies.{EndsIn, IsReplied, zone_of}
+use Rattle.hickory_zone.specs.Replies.{EndsIn, IsReplied, as_zone}
 use Rattle.hickory_zone.specs.Zones.{Answers, Outcome, Records, Sets, Zone}
 
-pub zone_is : (zone : MemoryZone) (origin : DomainName) (sets : Sets) → origin ≡ zone.origin → sets ≡ zone.sets → (let z : Zone = record { origin = origin; sets = sets } in z) ≡ zone_of zone
+pub zone_is : (zone : MemoryZone) (origin : DomainName) (sets : Sets) → origin ≡ zone.origin → sets ≡ zone.sets → (let z : Zone = record { origin = origin; sets = sets } in z) ≡ as_zone zone
 zone_is zone origin sets e f = ap (λ (o : DomainName). let z : Zone = record { origin = o; sets = sets } in z) e ∙ ap (λ (s : Sets). let z : Zone = record { origin = zone.origin; sets = s } in z) f
 
 pub finished : (zone : Zone) (name : DomainName) (t : ℕ) (old new : Records) (e : Ending) (reply : WholeReply) → old ≡ []
@@ -27,6 +27,6 @@ finished_at_once zone name low t outcome rs e reply n says is made = record { ch
 
 -- The same of the zone of this origin and these sets.
 pub finished_of : (zone : MemoryZone) (name low : DomainName) (t : ℕ) (origin : DomainName) (sets : Sets) (outcome : Outcome) (rs : Records) (e : Ending) (reply : WholeReply) → origin ≡ zone.origin → sets ≡ zone.sets → low ≡ lower_name name
-    → Answers (record { origin = origin; sets = sets }) low t outcome → step t [] name outcome ≡ ends rs e → EndsIn (record { origin = origin; sets = sets }) rs e reply → IsReplied (zone_of zone) name t reply
+    → Answers (record { origin = origin; sets = sets }) low t outcome → step t [] name outcome ≡ ends rs e → EndsIn (record { origin = origin; sets = sets }) rs e reply → IsReplied (as_zone zone) name t reply
 finished_of zone name low t origin sets outcome rs e reply o s n says is made =
     subst (λ (z : Zone). IsReplied z name t reply) (zone_is zone origin sets o s) (finished_at_once (record { origin = origin; sets = sets }) name low t outcome rs e reply n says is made)

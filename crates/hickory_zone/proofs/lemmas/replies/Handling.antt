@@ -20,7 +20,7 @@ use Rattle.hickory_zone.proofs.lemmas.names.EnclosedBetween.{equal_of}
 use Rattle.hickory_zone.proofs.lemmas.replies.Follows.{enclosed_lower, lower_enclosed}
 use Rattle.hickory_zone.specs.Chains.{IsIn}
 use Rattle.hickory_zone.specs.Handled.{IsGiven, IsLookedUp, TransferredFor, is_soa, names_zone, question, records_of}
-use Rattle.hickory_zone.specs.Replies.{RepliesTo, denial_soa, zone_of}
+use Rattle.hickory_zone.specs.Replies.{RepliesTo, denial_soa, as_zone}
 use Rattle.hickory_zone.specs.Zones.{Zone}
 
 pub in_lower : (zone : Zone) (name : DomainName) → IsIn zone name → IsIn zone (lower_name name)
@@ -30,11 +30,11 @@ pub from_lower : (zone : Zone) (name : DomainName) → IsIn zone (lower_name nam
 from_lower zone name x = record { qualified = x.qualified; within = lower_enclosed zone.origin.labels name.labels x.within }
 
 module _ (zone : MemoryZone) (origin name low : DomainName) (o : origin ≡ zone.origin) (n : name ≡ low) where
-  pub into_zone : IsIn (record { origin = origin; sets = zone.sets }) name → IsIn (zone_of zone) low
-  into_zone x = subst (IsIn (zone_of zone)) n (subst (λ (d : DomainName). IsIn (record { origin = d; sets = zone.sets }) name) o x)
+  pub into_zone : IsIn (record { origin = origin; sets = zone.sets }) name → IsIn (as_zone zone) low
+  into_zone x = subst (IsIn (as_zone zone)) n (subst (λ (d : DomainName). IsIn (record { origin = d; sets = zone.sets }) name) o x)
 
-  pub out_of_zone : IsIn (zone_of zone) low → IsIn (record { origin = origin; sets = zone.sets }) name
-  out_of_zone x = subst (λ (d : DomainName). IsIn (record { origin = d; sets = zone.sets }) name) (sym o) (subst (IsIn (zone_of zone)) (sym n) x)
+  pub out_of_zone : IsIn (as_zone zone) low → IsIn (record { origin = origin; sets = zone.sets }) name
+  out_of_zone x = subst (λ (d : DomainName). IsIn (record { origin = d; sets = zone.sets }) name) (sym o) (subst (IsIn (as_zone zone)) (sym n) x)
 
 module _ (zone : Zone) (name : DomainName) (t : ℕ) (result : Result AuthLookup LookupError) where
   by_test : (b : Bool) → is_soa zone name t ≡ b → MatchBool b (result ≡ Ok (lookup.Records (denial_soa zone) [])) ((reply : WholeReply) × RepliesTo zone (question name t) reply × (result ≡ records_of reply)) → IsLookedUp zone name t result
@@ -51,12 +51,12 @@ pub apex_soa : (zone : Zone) → is_soa zone zone.origin 6 ≡ true
 apex_soa zone = ap (λ order. is_eq order && (6 == 6)) (equal_of zone.origin zone.origin (itself zone.origin))
 
 module _ (zone : MemoryZone) (request : ReceivedRequest) (asked : Result Query LookupError) (query : Query) (answer : Option (Result ZoneTransfer LookupError × Option TSigResponseContext)) (is : asked ≡ Ok query) where
-  of_zone : (b : Bool) → names_zone (zone_of zone) query ≡ b → MatchBool b (IsGiven zone request query answer) (answer ≡ Some (Err (ResponseCode code_not_auth), None)) → TransferredFor zone request asked answer
+  of_zone : (b : Bool) → names_zone (as_zone zone) query ≡ b → MatchBool b (IsGiven zone request query answer) (answer ≡ Some (Err (ResponseCode code_not_auth), None)) → TransferredFor zone request asked answer
   of_zone b e h =
       subst (λ (q : Result Query LookupError). TransferredFor zone request q answer) (sym is) (subst (λ (x : Bool). MatchBool x (IsGiven zone request query answer) (answer ≡ Some (Err (ResponseCode code_not_auth), None))) (sym e) h)
 
-  pub transferred : names_zone (zone_of zone) query ≡ true → IsGiven zone request query answer → TransferredFor zone request asked answer
+  pub transferred : names_zone (as_zone zone) query ≡ true → IsGiven zone request query answer → TransferredFor zone request asked answer
   transferred e h = of_zone true e h
 
-  pub not_transferred : names_zone (zone_of zone) query ≡ false → answer ≡ Some (Err (ResponseCode code_not_auth), None) → TransferredFor zone request asked answer
+  pub not_transferred : names_zone (as_zone zone) query ≡ false → answer ≡ Some (Err (ResponseCode code_not_auth), None) → TransferredFor zone request asked answer
   not_transferred e h = of_zone false e h

@@ -15,14 +15,14 @@ use Rattle.hickory_zone.specs.Additionals.{AreAdditionals, hosts_of}
 use Rattle.hickory_zone.specs.Endings as ended
 use Rattle.hickory_zone.specs.representation.Features.{AreFeatures}
 use Rattle.hickory_zone.specs.representation.FoundRecords.{CutAbove, EndsAbove}
-use Rattle.hickory_zone.specs.Replies.{EndsIn, IsReplied, zone_of}
+use Rattle.hickory_zone.specs.Replies.{EndsIn, IsReplied, as_zone}
 use Rattle.hickory_zone.specs.representation.ReplyAtOnce.{IsReferredAtOnce}
 use Rattle.hickory_zone.specs.representation.TopCuts.{HasGlue, servers_at}
 use Rattle.hickory_zone.specs.Zones.{Records, Sets, Zone, referral}
 
 pub referred : (zone : MemoryZone) (name low : DomainName) (t : ℕ) (origin : DomainName) (sets : Sets) (cut : Option Cut) (has : Features) (reply : WholeReply) → origin ≡ zone.origin → sets ≡ zone.sets → low ≡ lower_name name
-    → AreFeatures (zone_of zone) has → CutAbove (record { origin = origin; sets = sets }) low (servers_at cut) → IfSome cut (HasGlue (record { origin = origin; sets = sets })) → IsReferredAtOnce cut has reply
-    → IsReplied (zone_of zone) name t reply
+    → AreFeatures (as_zone zone) has → CutAbove (record { origin = origin; sets = sets }) low (servers_at cut) → IfSome cut (HasGlue (record { origin = origin; sets = sets })) → IsReferredAtOnce cut has reply
+    → IsReplied (as_zone zone) name t reply
 referred zone name low t origin sets None has reply o s n features above glue r = absurd (let none : servers_at None ≡ Some r.servers = r.at in cc)
 referred zone name low t origin sets (Some cut) has reply o s n features above glue r =
     let z : Zone = record { origin = origin; sets = sets } in

@@ -1,5 +1,5 @@
--- Which numbers and lengths the fields of a record hold (RFC 1035 sections 3.2.1, 3.3 and 3.4), and what else its data have to be, so that a
--- record reads back as itself.
+-- Which numbers and lengths the fields of a record hold (RFC 1035 sections 3.2.1, 3.3 and 3.4), and what else its data
+-- have to be, so that a record reads back as itself.
 use Rattle.std.specs.Prelude.{◌≢◌, ◌<◌, ◌^◌, [], length}
 use Rattle.std.specs.List.{AllByRecursion}
 use Rattle.wire_messages.specs.Numbers.{type_a, type_aaaa, type_cname, type_mx, type_ns, type_null, type_opt, type_ptr, type_soa, type_tsig, type_txt}
@@ -29,8 +29,8 @@ pub record IsRecordInRange (r : Record RData) : Type 0 where
   pub ttl : r.ttl < 2 ^ 32
   pub rdata : IsInRange r.rdata
 
--- Names in the data are fully qualified; octets without a form stand only under types that have none; and there are no octets at all only as data of
--- an update or as an OPT without options.
+-- Names in the data are fully qualified; octets without a form stand only under types that have none; and there are no
+-- octets at all only as data of an update or as an OPT without options.
 abbrev pub IsReadAsItsType : RData → Type 0
 IsReadAsItsType (rdata.NS name) = IsFullyQualified name
 IsReadAsItsType (rdata.CNAME name) = IsFullyQualified name

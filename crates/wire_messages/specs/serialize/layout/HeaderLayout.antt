@@ -12,7 +12,8 @@ use Rattle.wire_messages.specs.declared.op.header.Metadata.{Metadata}
 abbrev pub bit : ℕ → ℕ → Bool
 bit byte k = byte / 2 ^ k % 2 == 1
 
--- What the two bytes of flags say: QR, opcode (4 bits), AA, TC, RD; RA, an unused bit, AD, CD, the low response code (4 bits).
+-- What the two bytes of flags say: QR, opcode (4 bits), AA, TC, RD; RA, an unused bit, AD, CD, the low response code (4
+-- bits).
 abbrev pub metadata_of : ℕ → ℕ → ℕ → Metadata
 metadata_of id one two = record {
   id = id;

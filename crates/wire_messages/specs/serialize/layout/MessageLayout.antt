@@ -1,4 +1,5 @@
--- How a message stands in bytes: its header, its sections one behind the other, and what each section may hold (RFC 1035 section 4.1).
+-- How a message stands in bytes: its header, its sections one behind the other, and what each section may hold (RFC
+-- 1035 section 4.1).
 use Rattle.std.specs.Prelude.{◌≡◌, ℕ, ◌+◌, ◌*◌, ◌/◌, ◌%◌, ◌^◌, List, [], ◌∷◌, ◌++◌, Bool, false, not, ◌||◌, filter, map, Option, Some, None, option_to_list, ◌==◌}
 use Rattle.wire_messages.specs.Numbers.{type_opt, type_sig, type_tsig}
 use Rattle.wire_messages.specs.op.EdnsFields.{EdnsFields}
@@ -22,8 +23,8 @@ pub record QuestionRead (bytes : List ℕ) (place : ℕ) (query : Query) (next :
   pub stands : QuestionAt 0 bytes place query next
   pub formed : IsFormedQuestion query
 
--- the types OPT, TSIG and SIG: OPT and TSIG belong in the additional section alone (RFC 6891 section 6.1.1, RFC 8945 section 5.2), and
--- so does SIG(0) (RFC 2931 section 3.1), for which every SIG is taken here
+-- the types OPT, TSIG and SIG: OPT and TSIG belong in the additional section alone (RFC 6891 section 6.1.1, RFC 8945
+-- section 5.2), and so does SIG(0) (RFC 2931 section 3.1), for which every SIG is taken here
 abbrev pub is_for_additionals_alone : ℕ → Bool
 is_for_additionals_alone kind = kind == type_opt || kind == type_tsig || kind == type_sig
 
@@ -69,8 +70,8 @@ HasEdns (r ∷ q ∷ others) edns = ⊥
 abbrev pub tsig_record : Record TSIG → Record RData
 tsig_record r = record { name = r.name; dns_class = r.dns_class; ttl = r.ttl; rdata = rdata.TSIG r.rdata; proof = r.proof }
 
--- The records of an additional section, in their order: a TSIG, if there is one, is the last (RFC 8945 section 5.2); before it there
--- is at most one OPT (RFC 6891 section 6.1.1), at the root (section 6.1.2); the others are its records.
+-- The records of an additional section, in their order: a TSIG, if there is one, is the last (RFC 8945 section 5.2);
+-- before it there is at most one OPT (RFC 6891 section 6.1.1), at the root (section 6.1.2); the others are its records.
 pub record AdditionalSection (all records : List (Record RData)) (edns : Option EdnsFields) (signature : Option (Record TSIG)) : Type 0 where
   pub unsigned : List (Record RData)
   pub opts : List (Record RData)

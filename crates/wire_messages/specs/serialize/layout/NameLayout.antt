@@ -6,8 +6,9 @@ use Rattle.wire_names.specs.declared.error.DecodeError.{DecodeError}
 use Rattle.wire_names.specs.declared.error.DecodeError.TheVariants.{InsufficientBytes, UnrecognizedLabelCode, PointerNotPriorToLabel, NameTooLong}
 
 -- From place on, in a run of labels that began at start, stand these labels, and next is the place behind them:
--- the end byte 0; a label behind its length byte; or a pointer, two bytes with the top bits 11 and the place in the other 14 bits,
--- to labels before the run that it ends (RFC 1035, section 4.1.4). No byte that is read for them lies below floor.
+-- the end byte 0; a label behind its length byte; or a pointer, two bytes with the top bits 11 and the place in the
+-- other 14 bits, to labels before the run that it ends (RFC 1035, section 4.1.4). No byte that is read for them lies
+-- below floor.
 pub data LabelsAt (floor : ℕ) (bytes : List ℕ) : ℕ → ℕ → List (List ℕ) → ℕ → Type 0 where
   at_end : {start place next : ℕ} → floor ≤ place → BytesAt bytes place (0 ∷ []) → next ≡ place + 1 → LabelsAt floor bytes start place [] next
   at_label : {start place behind next : ℕ} {label : List ℕ} {labels : List (List ℕ)} → floor ≤ place → IsLabel label → BytesAt bytes place (length label ∷ label)
@@ -28,8 +29,8 @@ pub data LabelsFault (bytes : List ℕ) : ℕ → ℕ → ℕ → DecodeError �
   after_pointer : {start place size : ℕ} {e : DecodeError} (high low goal : ℕ) → BytesAt bytes place ((192 + high) ∷ low ∷ []) → goal ≡ high * 256 + low → goal < start
       → LabelsFault bytes goal goal size e → LabelsFault bytes start place size e
 
--- The name stands at place, with at most 255 bytes in wire form (RFC 1035, section 2.3.4), and next is the place behind it.
--- No byte that is read for it lies below floor. The bytes don't say whether the name is fully qualified.
+-- The name stands at place, with at most 255 bytes in wire form (RFC 1035, section 2.3.4), and next is the place behind
+-- it. No byte that is read for it lies below floor. The bytes don't say whether the name is fully qualified.
 pub record NameAt (floor : ℕ) (bytes : List ℕ) (place : ℕ) (name : DomainName) (next : ℕ) : Type 0 where
   pub labels : LabelsAt floor bytes place place name.labels next
   pub short : name_len name.labels ≤ 255

@@ -1,13 +1,12 @@
 -- How a resource record stands in the bytes of a message, field after field (RFC 1035 section 4.1.3).
-use Rattle.std.specs.Prelude.{◌≡◌, ◌≢◌, ℕ, ◌+◌, ◌≤◌, ◌<◌, ◌^◌, List, [], ◌++◌, length}
-use Rattle.std.specs.List.{AllByRecursion, flat_map}
+use Rattle.std.specs.Prelude.{◌≡◌, ℕ, ◌+◌, ◌≤◌, ◌<◌, ◌^◌, List, ◌++◌, length}
+use Rattle.std.specs.List.{flat_map}
 use Rattle.std.specs.Int.{w16, w32, to_be_bytes}
 use Rattle.std.specs.Net.Addr.{ipv4_octets, ipv6_octets}
-use Rattle.wire_messages.specs.Numbers.{type_a, type_aaaa, type_cname, type_mx, type_ns, type_null, type_opt, type_ptr, type_soa, type_tsig, type_txt}
-use Rattle.wire_messages.specs.rr.Addresses.{IsIpv4, IsIpv6}
 use Rattle.wire_names.specs.serialize.layout.Bytes.{BytesAt}
+use Rattle.wire_messages.specs.serialize.layout.FieldRanges.{IsInRange, IsReadAsItsType}
 use Rattle.wire_messages.specs.serialize.layout.NameLayout.{NameAt, IsFullyQualified}
-use Rattle.wire_messages.specs.rr.RecordData.{character_string, option_octets, IsOption, OptionsOf, soa_numbers, tsig_fields, type_of}
+use Rattle.wire_messages.specs.rr.RecordData.{character_string, option_octets, OptionsOf, soa_numbers, tsig_fields, type_of}
 use Rattle.wire_messages.specs.declared.rr.rdata.MX.{MX}
 use Rattle.wire_messages.specs.declared.rr.rdata.SOA.{SOA}
 use Rattle.wire_messages.specs.declared.rr.rdata.RData.{RData}
@@ -62,8 +61,8 @@ DataAt floor bytes place (rdata.Unknown code octets) next = OctetsAt floor bytes
 abbrev pub fixed_fields : Record RData → ℕ → List ℕ
 fixed_fields r len = to_be_bytes w16 (type_of r.rdata) ++ to_be_bytes w16 r.dns_class ++ to_be_bytes w32 r.ttl ++ to_be_bytes w16 len
 
--- The record stands at place, and next is the place behind it: its owner name, its fixed fields, and its data, which reach as far
--- as the length in the fixed fields says. No byte that is read for it lies below floor.
+-- The record stands at place, and next is the place behind it: its owner name, its fixed fields, and its data, which
+-- reach as far as the length in the fixed fields says. No byte that is read for it lies below floor.
 pub record FormAt (floor : ℕ) (bytes : List ℕ) (place : ℕ) (r : Record RData) (next : ℕ) : Type 0 where
   pub middle : ℕ
   pub len : ℕ
@@ -73,24 +72,14 @@ pub record FormAt (floor : ℕ) (bytes : List ℕ) (place : ℕ) (r : Record RDa
   pub rdata : DataAt floor bytes (middle + 10) r.rdata next
   pub counted : next ≡ middle + 10 + len
 
--- Data that the form of their type reads as themselves where they stand: each number in its range, names fully qualified, octets without a form
--- only for types that have none, and no octets at all only as data of an update or as an OPT without options.
+-- Data that the form of their type reads as themselves where they stand: each number in its range, names fully qualified,
+-- octets without a form only for types that have none, and no octets at all only as data of an update or as an OPT
+-- without options.
 abbrev pub IsFormed : RData → Type 0
-IsFormed (rdata.A address) = IsIpv4 address
-IsFormed (rdata.AAAA address) = IsIpv6 address
-IsFormed (rdata.NS name) = IsFullyQualified name
-IsFormed (rdata.CNAME name) = IsFullyQualified name
-IsFormed (rdata.PTR name) = IsFullyQualified name
-IsFormed (rdata.MX mx) = (mx.preference < 2 ^ 16) × IsFullyQualified mx.exchange
-IsFormed (rdata.SOA soa) = (soa.serial < 2 ^ 32) × (soa.refresh < 2 ^ 32) × (soa.retry < 2 ^ 32) × (soa.expire < 2 ^ 32) × (soa.minimum < 2 ^ 32) × IsFullyQualified soa.mname × IsFullyQualified soa.rname
-IsFormed (rdata.TXT strings) = (strings ≢ []) × AllByRecursion (λ text. length text < 256) strings
-IsFormed (rdata.OPT options) = AllByRecursion IsOption options
-IsFormed (rdata.TSIG t) = (t.time < 2 ^ 48) × (t.fudge < 2 ^ 16) × (length t.mac < 2 ^ 16) × (t.oid < 2 ^ 16) × (t.error < 2 ^ 16) × (length t.other < 2 ^ 16) × IsFullyQualified t.algorithm
-IsFormed (rdata.NULL octets) = octets ≢ []
-IsFormed (rdata.Update0 code) = (code < 2 ^ 16) × (code ≢ type_opt) × (code ≢ type_tsig)
-IsFormed (rdata.Unknown code octets) = (code < 2 ^ 16) × (octets ≢ []) × (code ≢ type_a) × (code ≢ type_ns) × (code ≢ type_cname) × (code ≢ type_soa) × (code ≢ type_null) × (code ≢ type_ptr) × (code ≢ type_mx) × (code ≢ type_txt) × (code ≢ type_aaaa) × (code ≢ type_opt) × (code ≢ type_tsig)
+IsFormed content = IsInRange content × IsReadAsItsType content
 
--- A record whose numbers, names and octets are such as are read. It reads back as itself where its octets keep their lengths too.
+-- A record whose numbers, names and octets are such as are read. It reads back as itself where its octets keep their
+-- lengths too.
 pub record IsFormedRecord (r : Record RData) : Type 0 where
   pub name : IsFullyQualified r.name
   pub class : r.dns_class < 2 ^ 16
@@ -99,8 +88,8 @@ pub record IsFormedRecord (r : Record RData) : Type 0 where
   pub proof : r.proof ≡ Indeterminate
 
 -- The data that are read at place, of so many octets: an OPT record's are its octets first and its options then, where
--- octets that are not made of options read as none (a rule of this library: RFC 6891 section 7 would let a server answer FORMERR); all
--- others stand there in their form.
+-- octets that are not made of options read as none (a rule of this library: RFC 6891 section 7 would let a server
+-- answer FORMERR); all others stand there in their form.
 abbrev pub DataRead : List ℕ → ℕ → RData → ℕ → Type 0
 DataRead bytes place (rdata.OPT options) next = (octets : List ℕ) × OctetsAt 0 bytes place octets next × OptionsOf octets options
 DataRead bytes place content next = DataAt 0 bytes place content next × IsFormed content

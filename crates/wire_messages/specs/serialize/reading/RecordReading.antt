@@ -1,4 +1,5 @@
--- Resource records and questions as they are read, with the first fault that is met (RFC 1035 sections 4.1.2 and 4.1.3).
+-- Resource records and questions as they are read, with the first fault that is met (RFC 1035 sections 4.1.2 and
+-- 4.1.3).
 use Rattle.std.specs.Prelude.{ℕ, zero, suc, ◌+◌, ◌-◌, ◌*◌, ◌^◌, List, [], ◌∷◌, length, take, drop, Option, Some, None, option_map, unwrap_or, Ok, Err, nat_lt, ◌==◌, ◌&&◌, not, if◌then◌else◌}
 use Rattle.std.specs.Int.{w16, w32}
 use Rattle.wire_messages.specs.Numbers.{type_a, type_aaaa, type_cname, type_mx, type_ns, type_null, type_opt, type_ptr, type_soa, type_tsig, type_txt}
@@ -102,7 +103,8 @@ form kind len c =
     else (if kind == type_null then (octets len c >>= λ x. Ok (rdata.NULL x.0, x.1))
     else (octets len c >>= λ x. Ok (rdata.Unknown kind x.0, x.1))))))))))))
 
--- Data lie in the message; without a byte they are those of an update, but for OPT and TSIG; and they end where their length says.
+-- Data lie in the message; without a byte they are those of an update, but for OPT and TSIG; and they end where their
+-- length says.
 unfoldable pub record_data : ℕ → ℕ → Cursor → Read RData
 record_data kind len c =
     if nat_lt (length (rest_of c)) len then Err InsufficientBytes

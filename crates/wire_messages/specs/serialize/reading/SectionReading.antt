@@ -46,8 +46,8 @@ pub record Additionals : Type 0 where
 abbrev pub with_data : {R : Type 0} → Record RData → R → Record R
 with_data r content = record { name = r.name; dns_class = r.dns_class; ttl = r.ttl; rdata = content; proof = r.proof }
 
--- The next record of the additional section goes where its data say: one OPT (RFC 6891 section 6.1.1) at the root (section 6.1.2),
--- the TSIG, or the other records.
+-- The next record of the additional section goes where its data say: one OPT (RFC 6891 section 6.1.1) at the root
+-- (section 6.1.2), the TSIG, or the other records.
 abbrev pub placed : Additionals → Record RData → RData → Result Additionals DecodeError
 placed x r (rdata.OPT options) =
     if not (length r.name.labels == 0) then Err EdnsNameNotRoot

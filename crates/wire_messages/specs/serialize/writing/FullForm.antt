@@ -43,7 +43,8 @@ data_octets (rdata.Unknown code octets) = octets
 abbrev pub record_octets : Record RData → List ℕ
 record_octets r = name_octets r.name.labels ++ fixed_fields r (data_len r.rdata) ++ data_octets r.rdata
 
--- Of a TSIG record the octets end in its data in full: the name of its algorithm is not compressed (RFC 8945 section 4.2).
+-- Of a TSIG record the octets end in its data in full: the name of its algorithm is not compressed (RFC 8945 section
+-- 4.2).
 abbrev pub EndsInFull : RData → List ℕ → Type 0
 EndsInFull (rdata.TSIG signature) octets = (front : List ℕ) × (octets ≡ front ++ tsig_octets signature)
 EndsInFull content octets = Unit {0}

@@ -1,4 +1,5 @@
--- How large a resource record is with every name in full, and which records have no form in bytes (RFC 1035 sections 3.3 and 4.1.3).
+-- How large a resource record is with every name in full, and which records have no form in bytes (RFC 1035 sections
+-- 3.3 and 4.1.3).
 use Rattle.std.specs.Prelude.{◌≡◌, ℕ, ◌+◌, ◌<◌, ◌^◌, length, Option, Some, None, nat_lt, nat_le, if◌then◌else◌}
 use Rattle.std.specs.List.{flat_map, list_any}
 use Rattle.std.specs.Net.Addr.{ipv4_octets, ipv6_octets}
@@ -39,8 +40,8 @@ Leaves room size None = room < size
 abbrev pub length_fault : ℕ → Option ProtoError
 length_fault len = if nat_lt 65535 len then Some DataTooLong else None
 
--- Why data have no form in bytes, if they have none: a character string of more than 255 bytes (RFC 1035 section 3.3), data or a
--- part of them too long for their length field, or a time of more than 48 bits (RFC 8945 section 4.2).
+-- Why data have no form in bytes, if they have none: a character string of more than 255 bytes (RFC 1035 section 3.3),
+-- data or a part of them too long for their length field, or a time of more than 48 bits (RFC 8945 section 4.2).
 abbrev pub unwritable_reason : RData → Option ProtoError
 unwritable_reason (rdata.TXT strings) = if list_any (λ text. nat_lt 255 (length text)) strings then Some CharacterDataTooLong else length_fault (data_len (rdata.TXT strings))
 unwritable_reason (rdata.TSIG signature) = if nat_le (2 ^ 48) signature.time then Some DataTooLong else length_fault (data_len (rdata.TSIG signature))

@@ -12,7 +12,8 @@ use Rattle.wire_messages.specs.declared.rr.record.Proof.TheVariants.{Indetermina
 use Rattle.wire_messages.specs.declared.rr.record.Record.{Record}
 use Rattle.wire_messages.specs.declared.rr.tsig.TSIG.{TSIG}
 
--- The question section is repeated as the bytes that the request had, and the number of its questions is told beside them.
+-- The question section is repeated as the bytes that the request had, and the number of its questions is told beside
+-- them.
 pub record Reply : Type 0 where
   pub metadata : Metadata
   pub question : List ℕ
@@ -35,16 +36,18 @@ opt_record e = record {
   proof = Indeterminate;
 }
 
--- The five lists in which a reply's records are written, in this order: the answers; the authorities with the SOA behind them; the
--- additionals; the OPT; the TSIG, which is the last of all (RFC 8945 section 5.1). Where room is short, OPT and TSIG are cut like any other list,
--- where RFC 6891 section 7 would keep the OPT and RFC 8945 section 5.3 the TSIG.
+-- The five lists in which a reply's records are written, in this order: the answers; the authorities with the SOA
+-- behind them; the additionals; the OPT; the TSIG, which is the last of all (RFC 8945 section 5.1). Where room is
+-- short, OPT and TSIG are cut like any other list, where RFC 6891 section 7 would keep the OPT and RFC 8945 section 5.3
+-- the TSIG.
 abbrev pub reply_lists : Reply → List (List (Record RData))
 reply_lists reply = reply.answers ∷ (reply.authorities ++ reply.soa) ∷ reply.additionals
     ∷ option_to_list (option_map opt_record reply.edns) ∷ option_to_list (option_map tsig_record reply.signature) ∷ []
 
--- how many bytes a reply may have: over UDP the payload of its OPT record, 512 without one (RFC 1035 section 4.2.1, RFC 6891 sections
--- 6.2.3 and 6.2.4); else what a length of 16 bits allows (RFC 1035 section 4.2.2). A payload below 512 is a limit like any other here; whoever
--- makes the OPT record of a reply sees to it that the payload is at least 512 (RFC 6891 section 6.2.3).
+-- how many bytes a reply may have: over UDP the payload of its OPT record, 512 without one (RFC 1035 section 4.2.1, RFC
+-- 6891 sections 6.2.3 and 6.2.4); else what a length of 16 bits allows (RFC 1035 section 4.2.2). A payload below 512 is
+-- a limit like any other here; whoever makes the OPT record of a reply sees to it that the payload is at least 512 (RFC
+-- 6891 section 6.2.3).
 abbrev pub size_limit : Protocol → Option EdnsFields → ℕ
 size_limit protocol.Udp None = 512
 size_limit protocol.Udp (Some e) = e.max_payload

@@ -105,15 +105,16 @@ fn left_by_owner(room: usize, name: &Name) -> Option<usize>
 }
 
 impl Record {
-    /// What is left of so many bytes behind the record with every name in full (RFC 1035 section 4.1.3), or `None` where it does not fit, be it
-    /// that it has a form or not.
+    /// What is left of so many bytes behind the record with every name in full (RFC 1035 section 4.1.3), or `None`
+    /// where it does not fit, be it that it has a form or not.
     pub fn room_behind(&self, room: usize) -> Option<usize>
         ensures { Leaves room (full_size self.now) result }
     {
         left_by_data(left_by_owner(room, &self.name)?, &self.rdata)
     }
 
-    /// Whether the record with every name in full takes at most so many bytes (RFC 1035 section 4.1.3), be it that it has a form or not.
+    /// Whether the record with every name in full takes at most so many bytes (RFC 1035 section 4.1.3), be it that it
+    /// has a form or not.
     pub fn fits(&self, room: usize) -> bool
         ensures { IsTrue result ↔ (full_size self.now ≤ room) }
     {
@@ -122,7 +123,8 @@ impl Record {
 }
 
 impl Edns {
-    /// What is left of so many bytes behind the OPT record that says this (RFC 6891 section 6.1.2), or `None` where it does not fit.
+    /// What is left of so many bytes behind the OPT record that says this (RFC 6891 section 6.1.2), or `None` where it
+    /// does not fit.
     pub fn room_behind(&self, room: usize) -> Option<usize>
         ensures { Leaves room (full_size (opt_record self.now)) result }
     {

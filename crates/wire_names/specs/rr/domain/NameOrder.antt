@@ -1,5 +1,5 @@
 -- How names are compared: without regard to the case of ASCII letters (RFC 1035, section 2.3.3; RFC 4343, section 3).
-use Rattle.std.specs.Prelude.{◌≡◌, ℕ, nat_eq, Bool, false, ◌-◌, ◌<◌, if◌then◌else◌, List, [], ◌∷◌, ◌++◌, length, drop, map, reverse}
+use Rattle.std.specs.Prelude.{◌≡◌, ℕ, nat_eq, Bool, false, ◌-◌, ◌<◌, ◌||◌, if◌then◌else◌, List, [], ◌∷◌, ◌++◌, length, drop, map, reverse}
 use Rattle.std.specs.declared.cmp.Ordering.{Ordering}
 use Rattle.std.specs.Ordering.{nat_cmp, bool_cmp, on, then_cmp, eq_by_cmp}
 use Rattle.std.specs.Cmp.{IsTotalOrder, then_total, on_total, bool_cmp_total}
@@ -23,12 +23,14 @@ pub record SameName (a b : DomainName) : Type 0 where
   pub labels : lower_labels a.labels ≡ lower_labels b.labels
   pub marks : a.is_fqdn ≡ b.is_fqdn
 
--- A name of the labels `ns` equals or encloses one of the labels `ms`: letter case aside, `ns` stand at the end of `ms`.
+-- A name of the labels `ns` equals or encloses one of the labels `ms`: letter case aside, `ns` stand at the end of
+-- `ms`.
 pub record Encloses (ns ms : List (List ℕ)) : Type 0 where
   pub front : List (List ℕ)
   pub ends : lower_labels ms ≡ front ++ lower_labels ns
 
--- The end is what is left of the name where labels are taken off its front, one at least, until it encloses the other name.
+-- The end is what is left of the name where labels are taken off its front, one at least, until it encloses the other
+-- name.
 pub record IsSharedEnd (name other end : DomainName) : Type 0 where
   pub count : ℕ
   pub some : 0 < count
@@ -39,6 +41,15 @@ pub record IsSharedEnd (name other end : DomainName) : Type 0 where
 -- labels in lower case, as bytes
 abbrev pub label_cmp : List ℕ → List ℕ → Ordering
 label_cmp = on lower_label (slice_cmp nat_cmp)
+
+-- the labels are the same, letter case aside
+abbrev pub same_labels : List (List ℕ) → List (List ℕ) → Bool
+same_labels = pointwise (eq_by_cmp label_cmp)
+
+-- whether a name of the labels `ns` equals or encloses one of the labels `ms`: `Encloses` as a Bool
+abbrev pub encloses : List (List ℕ) → List (List ℕ) → Bool
+encloses ns [] = same_labels ns []
+encloses ns (m ∷ ms) = same_labels ns (m ∷ ms) || encloses ns ms
 
 -- By the labels from the last one on, a name that runs out first being less (RFC 4034, section 6.1);
 -- then the name that isn't fully qualified is less.

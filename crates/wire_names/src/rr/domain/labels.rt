@@ -41,8 +41,8 @@ impl Labels {
         }
     }
 
-    /// How many bytes they take in wire form, without the end byte (RFC 1035, section 3.1): one more than it has bytes for each
-    /// label.
+    /// How many bytes they take in wire form, without the end byte (RFC 1035, section 3.1): one more than it has bytes
+    /// for each label.
     pub fn wire_len(&self) -> usize
         ensures size { result ≡ length (wire_form self.now) }
         ensures small { result < 255 }
@@ -50,8 +50,8 @@ impl Labels {
         self.len
     }
 
-    /// Puts a label behind the others. It has 1 to 63 bytes, and with it the name has at most 255 in wire form, its end byte
-    /// counted (RFC 1035, section 2.3.4): `wire_len` tells what is taken already.
+    /// Puts a label behind the others. It has 1 to 63 bytes, and with it the name has at most 255 in wire form, its end
+    /// byte counted (RFC 1035, section 2.3.4): `wire_len` tells what is taken already.
     pub fn push(&mut self, label: &[u8])
         requires label { IsLabel label.now }
         requires fits { length (wire_form self.old) + 1 + length label.now < 255 }
@@ -63,7 +63,8 @@ impl Labels {
         self.len = start + label.len();
     }
 
-    /// Puts labels in wire form behind the others. With them the name has at most 255 bytes in wire form, its end byte counted.
+    /// Puts labels in wire form behind the others. With them the name has at most 255 bytes in wire form, its end byte
+    /// counted.
     pub fn append(&mut self, wire: &[u8])
         requires wire { IsWire wire.now }
         requires fits { length (wire_form self.old) + length wire.now < 255 }

@@ -15,8 +15,8 @@ use crate::rr::domain::name::Name;
 use crate::rr::domain::order_key::{
     escaped_len, make_order_key, set_plain_key, shared_len, wire_len,
 };
-use crate::rr::domain::wire::{ShortBytes, Wire};
 use crate::values::same_bytes::are_same;
+use crate::values::wire::{ShortBytes, Wire};
 use std::alloc::{AllocError, Global};
 use std::cmp::Ordering;
 use std::hash::{Hash, Hasher};
@@ -68,7 +68,7 @@ impl LowerName {
         }
     }
 
-    /// The same as `new`, in the place of another name. Where memory is refused, nothing is promised of it.
+    /// Puts a name in lower case in the place of this one. Where memory is refused, nothing is promised of it.
     #[inline(always)]
     pub fn set(&mut self, alloc: Global, name: &Name) -> Result<(), AllocError>
         ensures { OnOk result (self.new ≡ lower_name name.now) }
@@ -79,8 +79,8 @@ impl LowerName {
         self.set_any(alloc, name)
     }
 
-    /// The same where both names are short and no byte of a label is below 2. Returns whether it did; else nothing is promised
-    /// of the name.
+    /// Puts a name in lower case in the place of this one where both are short and no byte of a label is below 2.
+    /// Returns whether it did; else nothing is promised of the name.
     #[inline(always)]
     fn set_short(&mut self, name: &Name) -> bool
         ensures { IsTrue result → self.new ≡ lower_name name.now }
@@ -92,7 +92,7 @@ impl LowerName {
         false
     }
 
-    /// The same for any name.
+    /// Puts any name in lower case in the place of this one.
     #[inline(never)]
     fn set_any(&mut self, alloc: Global, name: &Name) -> Result<(), AllocError>
         ensures { OnOk result (self.new ≡ lower_name name.now) }
@@ -122,7 +122,8 @@ impl LowerName {
         are_same(&all[..own.len()], own)
     }
 
-    /// Whether the name right above this one equals or encloses the other; `false` for the root, above which there is none.
+    /// Whether the name right above this one equals or encloses the other; `false` for the root, above which there is
+    /// none.
     // speed: served, a name that is not there
     pub fn has_parent_above(&self, other: &LowerName) -> bool
         ensures { IsTrue result ↔ (0 < length self.now.labels) × Encloses (drop 1 self.now.labels) other.now.labels }
@@ -141,8 +142,8 @@ impl LowerName {
         are_same(&all[..rest], &own[..rest])
     }
 
-    /// Eight bytes of its order key, from where that of a name above it ends, as a number. Names at or below that one are in the order
-    /// of their numbers where these differ.
+    /// Eight bytes of its order key, from where that of a name above it ends, as a number. Names at or below that one
+    /// are in the order of their numbers where these differ.
     // speed: served, an address
     #[inline(always)]
     pub fn order_word(&self, above: &LowerName) -> u64
@@ -166,8 +167,8 @@ impl LowerName {
         self.name.remove_first_label();
     }
 
-    /// Takes labels off the front, one at least, until it encloses the other name. A name without labels stays. It takes no
-    /// memory.
+    /// Takes labels off the front, one at least, until it encloses the other name. A name without labels stays. It
+    /// takes no memory.
     pub fn keep_shared_end(&mut self, other: &LowerName)
         ensures { IsSharedEnd self.old other.now self.new }
     {

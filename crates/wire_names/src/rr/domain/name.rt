@@ -11,7 +11,7 @@ ghost use Rattle.wire_names.specs.representation.NameHash.{name_hash_input, name
 
 use crate::rr::domain::compare::compare_from_last;
 use crate::rr::domain::labels::MAX_NAME_LEN;
-use crate::rr::domain::wire::{ShortBytes, Wire};
+use crate::values::wire::{ShortBytes, Wire};
 use std::alloc::{AllocError, Global};
 use std::cmp::Ordering;
 use std::hash::{Hash, Hasher};
@@ -52,9 +52,9 @@ impl Name {
         }
     }
 
-    /// The labels in wire form, in the letter case that they were read or spelled in: each is a byte with its length, 1 to 63,
-    /// and so many bytes (RFC 1035, section 3.1). At most 254 bytes (section 2.3.4): the byte 0 that ends a name in a message
-    /// is left out.
+    /// The labels in wire form, in the letter case that they were read or spelled in: each is a byte with its length, 1
+    /// to 63, and so many bytes (RFC 1035, section 3.1). At most 254 bytes (section 2.3.4): the byte 0 that ends a name
+    /// in a message is left out.
     pub fn as_wire(&self) -> &[u8]
         ensures labels { result.now ≡ wire_form self.now.labels }
         ensures bounds { AreLabels self.now.labels }
@@ -72,7 +72,8 @@ impl Name {
         Ok(Name { wire, is_fqdn })
     }
 
-    /// The name of the labels in these bytes, fully qualified, in the place of another. Where memory is refused, that one stays.
+    /// The name of the labels in these bytes, fully qualified, in the place of another. Where memory is refused, that
+    /// one stays.
     pub fn set_wire(&mut self, alloc: Global, bytes: &[u8]) -> Result<(), AllocError>
         requires { IsWire bytes.now }
         ensures { OnOk result (self.new ≡ record { labels = cut bytes.now; is_fqdn = true }) }

@@ -95,8 +95,8 @@ impl fmt::Display for TextBytes<'_> {
 /// The labels with dots between them, and a final dot where the name is fully qualified; the root is `.`
 /// (RFC 1035 section 5.1). A name without labels that is not fully qualified is `@`.
 ///
-/// The letter case is kept. In a label `"`, `$`, `(`, `)`, `.`, `;`, `@` and `\` stand behind a backslash, and each byte that is no
-/// printable ASCII character, or a space, is a backslash and three decimal digits.
+/// The letter case is kept. In a label `"`, `$`, `(`, `)`, `.`, `;`, `@` and `\` stand behind a backslash, and each
+/// byte that is no printable ASCII character, or a space, is a backslash and three decimal digits.
 impl fmt::Display for Name {
     ghost output = { λ name. Some (spelled_name name) };
 
@@ -122,7 +122,7 @@ impl fmt::Display for Name {
     }
 }
 
-/// The same text as of the name that it holds.
+/// The text of the name that it holds.
 impl fmt::Display for LowerName {
     ghost output = { λ lower. Some (spelled_name lower) };
 

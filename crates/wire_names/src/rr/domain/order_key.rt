@@ -1,22 +1,18 @@
 //! Names in a form that is compared byte by byte.
 
 ghost use Rattle.std.specs.Prelude.{◌≡◌, ℕ, ◌+◌, ◌*◌, ◌<◌, ◌≤◌, List, ◌∷◌, ◌++◌, length, take, drop, IfOk, IfSome, IsTrue};
-ghost use Rattle.std.specs.Ordering.{nat_cmp};
-ghost use Rattle.std.specs.Cmp.Lexicographic.{slice_cmp};
-ghost use Rattle.std.specs.Slice.Scan.{big_endian};
 ghost use Rattle.wire_names.specs.rr.domain.DomainName.{IsWire, cut, wire_form};
 ghost use Rattle.wire_names.specs.representation.NameBytes.{wire_bytes};
 ghost use Rattle.wire_names.specs.representation.OrderKey.{IsSharedFront, escaped, order_key};
 
-use crate::rr::domain::wire::{SHORT_LEN, ShortBytes, Wire};
-use crate::values::words::{WORD_LEN, word_at};
+use crate::values::wire::{SHORT_LEN, ShortBytes, Wire};
 use std::alloc::{AllocError, Global};
-use std::cmp::Ordering;
 
 /// At least as many bytes as the key of any name has: each byte of a label takes two at most, and each label one more.
 const KEY_ROOM: usize = 512;
 
-/// Puts a label, and the byte that ends it, in front of what stands in the room from a place on. Returns where it begins.
+/// Puts a label, and the byte that ends it, in front of what stands in the room from a place on. Returns where it
+/// begins.
 fn put_label(room: &mut [u8], end: usize, label: &[u8]) -> usize
     requires enough { 2 * length label.now < end }
     requires within { end ≤ length room.old }
@@ -58,8 +54,8 @@ pub(crate) fn escaped_len(label: &[u8]) -> usize
     count
 }
 
-/// How many bytes at the front of a key are of whole labels that the other key begins with too: of as many labels as do,
-/// but not of all that the key has.
+/// How many bytes at the front of a key are of whole labels that the other key begins with too: of as many labels as
+/// do, but not of all that the key has.
 pub(crate) fn shared_len(key: &[u8], other: &[u8]) -> usize
     ensures { IsSharedFront key.now other.now result }
 {
@@ -106,7 +102,8 @@ fn make_key_in(room: &mut [u8], alloc: Global, wire: &[u8]) -> Result<Wire, Allo
     Wire::from_slice(alloc, &room[start..])
 }
 
-/// The same for a label without a byte below 2, as nearly all are. For any other it returns nothing.
+/// Puts a label without a byte below 2, as nearly all are, and the byte that ends it in front of what stands in the
+/// room from a place on, and returns where it begins. For any other label it returns nothing.
 #[inline(always)]
 fn put_plain(room: &mut [u8], end: usize, label: &[u8]) -> Option<usize>
     requires enough { length label.now < end }
@@ -129,7 +126,8 @@ fn put_plain(room: &mut [u8], end: usize, label: &[u8]) -> Option<usize>
     Some(start)
 }
 
-/// Makes the key in a room of as many bytes as the labels take, where none of theirs is below 2. Returns whether none is.
+/// Makes the key in a room of as many bytes as the labels take, where none of theirs is below 2. Returns whether none
+/// is.
 #[inline(always)]
 fn fill_plain_key(room: &mut [u8], wire: &[u8]) -> bool
     requires wire { IsWire wire.now }
@@ -165,7 +163,8 @@ pub(crate) fn make_order_key(alloc: Global, wire: &[u8]) -> Result<Wire, AllocEr
     make_key_in(&mut [0; KEY_ROOM], alloc, wire)
 }
 
-/// Makes the key in the place of another, where both are short and no byte of a label is below 2. Returns whether it did.
+/// Makes the key in the place of another, where both are short and no byte of a label is below 2. Returns whether it
+/// did.
 #[inline(always)]
 pub(crate) fn set_plain_key(key: &mut Wire, wire: &[u8]) -> bool
     requires { IsWire wire.now }
@@ -179,28 +178,4 @@ pub(crate) fn set_plain_key(key: &mut Wire, wire: &[u8]) -> bool
         }
     }
     false
-}
-
-/// Keys compared byte by byte: the first bytes that differ decide, and where none do, the lengths.
-pub(crate) fn compare_keys(a: &[u8], b: &[u8]) -> Ordering
-    ensures { result ≡ slice_cmp nat_cmp a.now b.now }
-{
-    let both = a.len().min(b.len());
-    if both < WORD_LEN {
-        return a.iter().cmp(b.iter());
-    }
-    let last = both - WORD_LEN;
-    let mut place = 0;
-    loop {
-        let x = word_at(a, place);
-        let y = word_at(b, place);
-        if x != y {
-            return x.cmp(&y);
-        }
-        if place == last {
-            return a.len().cmp(&b.len());
-        }
-        // The last word may begin among bytes that were compared before, which are equal.
-        place = last.min(place + WORD_LEN);
-    }
 }

@@ -30,7 +30,8 @@ pub record RecordsStand (bytes : List ℕ) (place count next : ℕ) : Type 0 whe
   pub number : length records ≡ count
   pub plain : AllByRecursion IsPlainRecord records
 
--- So many records of an additional section stand one behind the other, with what their OPT says and with their TSIG, if they have them.
+-- So many records of an additional section stand one behind the other, with what their OPT says and with their TSIG, if
+-- they have them.
 pub record AdditionalsStand (bytes : List ℕ) (place count : ℕ) (edns : Option EdnsFields) (signature : Option (Record TSIG)) (next : ℕ) : Type 0 where
   pub all : List (Record RData)
   pub records : List (Record RData)
@@ -61,8 +62,9 @@ pub record RecordsFault (bytes : List ℕ) (place count : ℕ) (e : DecodeError)
   pub stand : RecordsStand bytes place before next
   pub faulty : MisplacedOrFaulty bytes next e
 
--- What is wrong with a record of an additional section, behind records with this EDNS and this TSIG: its own fault; a TSIG stands before
--- it (RFC 8945 section 5.2); it is an OPT that is not at the root (RFC 6891 section 6.1.2), or a second one (section 6.1.1).
+-- What is wrong with a record of an additional section, behind records with this EDNS and this TSIG: its own fault; a
+-- TSIG stands before it (RFC 8945 section 5.2); it is an OPT that is not at the root (RFC 6891 section 6.1.2), or a
+-- second one (section 6.1.1).
 pub data UnfitOrFaulty (bytes : List ℕ) (edns : Option EdnsFields) (signature : Option (Record TSIG)) (place : ℕ) : DecodeError → Type 0 where
   faulty : {e : DecodeError} → RecordFault bytes place e → UnfitOrFaulty bytes edns signature place e
   after_signature : {r : Record RData} {next : ℕ} → RecordAt bytes place r next → signature ≢ None → UnfitOrFaulty bytes edns signature place RecordAfterSignature
@@ -79,8 +81,8 @@ pub record AdditionalsFault (bytes : List ℕ) (place count : ℕ) (e : DecodeEr
   pub stand : AdditionalsStand bytes place before edns signature next
   pub faulty : UnfitOrFaulty bytes edns signature next e
 
--- The first fault of bytes that begin with no message: they end before the twelve octets of the header, or the first fault of a section,
--- behind the sections that stand.
+-- The first fault of bytes that begin with no message: they end before the twelve octets of the header, or the first
+-- fault of a section, behind the sections that stand.
 pub data MessageFault (bytes : List ℕ) : DecodeError → Type 0 where
   header_missing : length bytes < 12 → MessageFault bytes InsufficientBytes
   in_questions : {e : DecodeError} {h : Header} → HeaderAt bytes h → QuestionsFault bytes 12 h.counts.queries e → MessageFault bytes e

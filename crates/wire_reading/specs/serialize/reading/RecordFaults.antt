@@ -13,7 +13,8 @@ use Rattle.wire_names.specs.declared.error.DecodeError.TheVariants.{Insufficient
 use Rattle.wire_messages.specs.declared.rr.rdata.RData.{RData}
 use Rattle.wire_messages.specs.declared.rr.rdata.RData.TheVariants as rdata
 
--- Data whose form says itself where they end: addresses, names, MX, SOA and TSIG. Of the others the data length alone says it.
+-- Data whose form says itself where they end: addresses, names, MX, SOA and TSIG. Of the others the data length alone
+-- says it.
 abbrev pub EndsItself : RData → Type 0
 EndsItself (rdata.A address) = Unit {0}
 EndsItself (rdata.AAAA address) = Unit {0}
@@ -29,8 +30,8 @@ EndsItself (rdata.NULL octets) = ⊥
 EndsItself (rdata.Update0 code) = ⊥
 EndsItself (rdata.Unknown code octets) = ⊥
 
--- The next string of a TXT record at place, behind the strings that stand there from start on: its length octet, n, lies before stop,
--- where the data end (RFC 1035 section 3.3.14).
+-- The next string of a TXT record at place, behind the strings that stand there from start on: its length octet, n,
+-- lies before stop, where the data end (RFC 1035 section 3.3.14).
 pub record StringBegins (bytes : List ℕ) (start stop place n : ℕ) : Type 0 where
   pub strings : List (List ℕ)
   pub stand : OctetsAt 0 bytes start (flat_map character_string strings) place
@@ -48,8 +49,8 @@ pub data MxFault (bytes : List ℕ) (place : ℕ) : DecodeError → Type 0 where
   preference_missing : length bytes < place + 2 → MxFault bytes place InsufficientBytes
   exchange_faulty : {e : DecodeError} → place + 2 ≤ length bytes → NameFault bytes (place + 2) e → MxFault bytes place e
 
--- The first fault of SOA data: one of the two names has a fault, or the message ends before the five numbers of four octets
--- (RFC 1035 section 3.3.13).
+-- The first fault of SOA data: one of the two names has a fault, or the message ends before the five numbers of four
+-- octets (RFC 1035 section 3.3.13).
 pub data SoaFault (bytes : List ℕ) (place : ℕ) : DecodeError → Type 0 where
   mname_faulty : {e : DecodeError} → NameFault bytes place e → SoaFault bytes place e
   rname_faulty : {e : DecodeError} {mname : DomainName} {one : ℕ} → NameAt 0 bytes place mname one
@@ -57,8 +58,8 @@ pub data SoaFault (bytes : List ℕ) (place : ℕ) : DecodeError → Type 0 wher
   numbers_missing : {mname rname : DomainName} {one two : ℕ} → NameAt 0 bytes place mname one
       → NameAt 0 bytes one rname two → length bytes < two + 20 → SoaFault bytes place InsufficientBytes
 
--- The first fault of TXT data that end before stop: a string reaches past the end of the message, or past that of the data
--- (RFC 1035 section 3.3.14).
+-- The first fault of TXT data that end before stop: a string reaches past the end of the message, or past that of the
+-- data (RFC 1035 section 3.3.14).
 pub data TxtFault (bytes : List ℕ) (place stop : ℕ) : DecodeError → Type 0 where
   string_missing : {middle n : ℕ} → StringBegins bytes place stop middle n → length bytes < middle + 1 + n
       → TxtFault bytes place stop InsufficientBytes
@@ -66,8 +67,8 @@ pub data TxtFault (bytes : List ℕ) (place stop : ℕ) : DecodeError → Type 0
       → stop < middle + 1 + n → TxtFault bytes place stop IncorrectDataLength
 
 -- The first fault of TSIG data: the algorithm's name has a fault; or the message ends before the MAC size, which stands
--- behind the six octets of the time and the two of the fudge; or before the other length, which stands behind the MAC and
--- two octets each of original id and error; or before the end of the other data (RFC 8945 section 4.2).
+-- behind the six octets of the time and the two of the fudge; or before the other length, which stands behind the MAC
+-- and two octets each of original id and error; or before the end of the other data (RFC 8945 section 4.2).
 pub data TsigFault (bytes : List ℕ) (place : ℕ) : DecodeError → Type 0 where
   algorithm_faulty : {e : DecodeError} → NameFault bytes place e → TsigFault bytes place e
   mac_size_missing : {algorithm : DomainName} {middle : ℕ} → NameAt 0 bytes place algorithm middle
@@ -97,15 +98,16 @@ pub data DataFormFault (bytes : List ℕ) (place len : ℕ) : ℕ → DecodeErro
   ends_elsewhere : {next : ℕ} (content : RData) → EndsItself content → DataRead bytes place content next
       → next ≢ place + len → DataFormFault bytes place len (type_of content) IncorrectDataLength
 
--- The first fault of data of len octets that lie within the message, by their type. Without an octet a TSIG has no form; other data are
--- then those of an update, or an OPT without options.
+-- The first fault of data of len octets that lie within the message, by their type. Without an octet a TSIG has no
+-- form; other data are then those of an update, or an OPT without options.
 pub data DataFault (bytes : List ℕ) (place len : ℕ) : ℕ → DecodeError → Type 0 where
   no_octets : len ≡ 0 → DataFault bytes place len type_tsig IncorrectDataLength
   form_faulty : {kind : ℕ} {e : DecodeError} → 0 < len → DataFormFault bytes place len kind e
       → DataFault bytes place len kind e
 
--- The first fault of a record at place, whose ten octets of type, class, TTL and data length stand behind its owner name: that of the
--- owner name; the message ends before those octets, or before the end of the data; or that of the data.
+-- The first fault of a record at place, whose ten octets of type, class, TTL and data length stand behind its owner
+-- name: that of the owner name; the message ends before those octets, or before the end of the data; or that of the
+-- data.
 pub data RecordFault (bytes : List ℕ) (place : ℕ) : DecodeError → Type 0 where
   owner_faulty : {e : DecodeError} → NameFault bytes place e → RecordFault bytes place e
   fields_missing : {owner : DomainName} {middle : ℕ} → NameAt 0 bytes place owner middle

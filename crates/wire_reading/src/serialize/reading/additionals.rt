@@ -76,7 +76,8 @@ impl Additionals {
         Ok(())
     }
 
-    /// Puts what the next record says, an OPT record at the root. On an error nothing is promised of what was read before.
+    /// Puts what the next record says, an OPT record at the root. On an error nothing is promised of what was read
+    /// before.
     #[inline(always)]
     #[tactic(auto, unfolding(crate::specs::serialize::reading::OptReading::add_edns))]
     pub(crate) fn add_edns(&mut self, edns: Edns) -> Result<(), DecodeError>

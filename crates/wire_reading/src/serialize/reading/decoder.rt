@@ -18,8 +18,8 @@ use std::marker::Model;
 use wire_names::error::DecodeError;
 use wire_names::rr::domain::name::Name;
 
-/// The names of any message may take so many steps behind pointers, and one more for so many bytes of the message, before
-/// what they lead to is kept. The names of most messages take fewer.
+/// The names of any message may take so many steps behind pointers, and one more for so many bytes of the message,
+/// before what they lead to is kept. The names of most messages take fewer.
 const FREE_STEPS: usize = 128;
 
 const BYTES_PER_STEP: usize = 4;
@@ -198,7 +198,7 @@ impl<'a> BinDecoder<'a> {
         Ok(name)
     }
 
-    /// The same as `read_name`, in the place of another name.
+    /// Reads a name in the place of another one.
     #[inline(always)]
     #[tactic(auto, unfolding(wire_messages::specs::serialize::reading::NameReading::name))]
     pub(crate) fn read_name_into(
@@ -217,7 +217,7 @@ impl<'a> BinDecoder<'a> {
         Ok(())
     }
 
-    /// The same for any name.
+    /// Reads any name in the place of another one.
     #[inline(never)]
     fn read_any_name_into(&mut self, alloc: Global, into: &mut Name) -> Result<(), DecodeError>
         ensures { GivesSeenBy (λ _. into.new) result self.old self.new name }
@@ -226,9 +226,11 @@ impl<'a> BinDecoder<'a> {
         Ok(())
     }
 
-    /// The name at this place, with the case of its letters, fully qualified; it may be compressed (RFC 1035, section 4.1.4).
+    /// The name at this place, with the case of its letters, fully qualified; it may be compressed (RFC 1035, section
+    /// 4.1.4).
     ///
-    /// Then the place is the one behind it. An error is the first fault there, or `Memory`; the place is then left open.
+    /// Then the place is the one behind it. An error is the first fault there, or `Memory`; the place is then left
+    /// open.
     pub fn read_name(&mut self, alloc: Global) -> Result<Name, DecodeError>
         ensures exact { Gives result self.old self.new name }
         ensures found { IfOk result (λ n. NameAt 0 self.old.bytes self.old.place n self.new.place ×

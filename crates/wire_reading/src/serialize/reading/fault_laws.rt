@@ -1,5 +1,5 @@
-//! Laws of faults, each the contract of a function with nothing to do: the first fault of a question, a record or a message is the one
-//! that reading meets.
+//! Laws of faults, each the contract of a function with nothing to do: the first fault of a question, a record or a
+//! message is the one that reading meets.
 
 ghost use Rattle.std.specs.Prelude.{◌≡◌, ◌↔◌, ◌⊎◌, ℕ, List, [], Err};
 ghost use Rattle.wire_names.specs.serialize.layout.Bytes.{AreBytes};
@@ -16,7 +16,8 @@ ghost use Rattle.wire_messages.specs.declared.op.query.Query.{Query};
 ghost use Rattle.wire_messages.specs.declared.rr.rdata.RData.{RData};
 ghost use Rattle.wire_messages.specs.declared.rr.record.Record.{Record};
 
-/// The fault of a question is the one that reading meets. At each place there is a question or a fault, and one fault at most.
+/// The fault of a question is the one that reading meets. At each place there is a question or a fault, and one fault
+/// at most.
 pub fn question_faults()
     ensures met { (bytes : List ℕ) (place : ℕ) (e : DecodeError) → QuestionFault bytes place e ↔
         (question (record { bytes = bytes; place = place }) ≡ Err e) }
@@ -29,7 +30,8 @@ pub fn question_faults()
         QuestionFault bytes place e → d ≡ e }
 {}
 
-/// The fault of a record is the one that reading meets. At each place there is a record or a fault, and one fault at most.
+/// The fault of a record is the one that reading meets. At each place there is a record or a fault, and one fault at
+/// most.
 pub fn record_faults()
     ensures met { (bytes : List ℕ) (place : ℕ) (e : DecodeError) → AreBytes bytes → RecordFault bytes place e ↔
         (resource (record { bytes = bytes; place = place }) ≡ Err e) }
@@ -42,8 +44,8 @@ pub fn record_faults()
         RecordFault bytes place e → d ≡ e }
 {}
 
-/// The first fault of so many questions, one behind the other, is the one that reading meets; so is that of so many records of an answer or
-/// authority section, and of an additional one.
+/// The first fault of so many questions, one behind the other, is the one that reading meets; so is that of so many
+/// records of an answer or authority section, and of an additional one.
 pub fn section_faults()
     ensures questions { (bytes : List ℕ) (place n : ℕ) (e : DecodeError) → AreBytes bytes →
         QuestionsFault bytes place n e ↔ (items question n [] (record { bytes = bytes; place = place }) ≡ Err e) }
@@ -54,7 +56,8 @@ pub fn section_faults()
         (additionals_after n no_additionals (record { bytes = bytes; place = place }) ≡ Err e) }
 {}
 
-/// The fault of bytes is the one that reading meets. Bytes begin with a message or have a fault, never both, and one fault at most.
+/// The fault of bytes is the one that reading meets. Bytes begin with a message or have a fault, never both, and one
+/// fault at most.
 pub fn message_faults()
     ensures met { (bytes : List ℕ) (e : DecodeError) → AreBytes bytes → MessageFault bytes e ↔ Fault bytes e }
     ensures either { (bytes : List ℕ) → AreBytes bytes → ((m : Message) × Reads bytes m) ⊎

@@ -83,8 +83,8 @@ impl<'a> BinDecoder<'a> {
     /// The header at this place, of twelve bytes, with the low four bits of the response code. The unused bit of the
     /// flags is not looked at.
     ///
-    /// Then the place is the one behind it. The only error is `InsufficientBytes`: there are fewer than twelve bytes from
-    /// this place on. The place is then left open. It needs no memory.
+    /// Then the place is the one behind it. The only error is `InsufficientBytes`: there are fewer than twelve bytes
+    /// from this place on. The place is then left open. It needs no memory.
     pub fn read_header(&mut self) -> Result<Header, DecodeError>
         ensures exact { Gives result self.old self.new header }
         ensures fault { IfErr result (λ e. (e ≡ InsufficientBytes) × (length self.old.bytes < self.old.place + 12)) }

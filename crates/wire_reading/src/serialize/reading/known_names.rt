@@ -49,7 +49,8 @@ fn rest_at(rests: &Vec<Option<Rest>>, place: usize) -> Option<Rest>
     rests.get(place).copied()?
 }
 
-/// Where the run of labels at a place may begin at the earliest: behind the place that the pointer which ends it leads to.
+/// Where the run of labels at a place may begin at the earliest: behind the place that the pointer which ends it leads
+/// to.
 fn least_start(bytes: &[u8], rests: &Vec<Option<Rest>>, place: usize) -> usize
     requires kept { (labels : List ℕ) × AreRests bytes.now labels rests.now.items }
     requires rest { (wire : List ℕ) × IsRest bytes.now place place wire }
@@ -87,7 +88,8 @@ fn note(rests: &mut Vec<Option<Rest>>, place: usize, rest: Rest) -> bool
     true
 }
 
-/// Notes the rest at each place from one on, up to one that is noted. The labels there are those that are kept from `first` on.
+/// Notes the rest at each place from one on, up to one that is noted. The labels there are those that are kept from
+/// `first` on.
 fn note_rests(
     bytes: &[u8],
     labels: &[u8],

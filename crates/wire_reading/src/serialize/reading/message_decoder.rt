@@ -72,9 +72,9 @@ impl<'a> BinDecoder<'a> {
 
     /// So many records of an answer or authority section, one behind the other.
     ///
-    /// Memory is taken as records are read. Then the place is the one behind the last. An error is the first fault: those
-    /// of a record, or `RecordNotInAdditionals` where an OPT, TSIG or SIG record stands here; or it is `Memory` where memory
-    /// was refused. After an error the place is left open.
+    /// Memory is taken as records are read. Then the place is the one behind the last. An error is the first fault:
+    /// those of a record, or `RecordNotInAdditionals` where an OPT, TSIG or SIG record stands here; or it is `Memory`
+    /// where memory was refused. After an error the place is left open.
     pub fn read_section(&mut self, alloc: Global, count: u16) -> Result<Items<Record>, DecodeError>
         ensures { Gives result self.old self.new (items section_record count []) }
     {
@@ -86,10 +86,11 @@ impl<'a> BinDecoder<'a> {
         Ok(records)
     }
 
-    /// The next record of an additional section, put where its data belong. After an error nothing is promised of what was
-    /// read before.
+    /// The next record of an additional section, put where its data belong. After an error nothing is promised of what
+    /// was read before.
     ///
-    /// An OPT record with the root in full as its owner name, as nearly all have it, is read without a record being made.
+    /// An OPT record with the root in full as its owner name, as nearly all have it, is read without a record being
+    /// made.
     fn read_additional(
         &mut self,
         alloc: Global,
@@ -110,10 +111,10 @@ impl<'a> BinDecoder<'a> {
 
     /// So many records of an additional section, with its OPT and its TSIG apart.
     ///
-    /// Memory is taken as records are read. Then the place is the one behind the last. An error is the first fault: those
-    /// of a record, and then, in this order, `RecordAfterSignature` behind a TSIG record (RFC 8945 section 5.2),
-    /// `EdnsNameNotRoot` and `DuplicateEdns` (RFC 6891 sections 6.1.1 and 6.1.2); or it is `Memory` where memory was refused.
-    /// After an error the place is left open.
+    /// Memory is taken as records are read. Then the place is the one behind the last. An error is the first fault:
+    /// those of a record, and then, in this order, `RecordAfterSignature` behind a TSIG record (RFC 8945 section 5.2),
+    /// `EdnsNameNotRoot` and `DuplicateEdns` (RFC 6891 sections 6.1.1 and 6.1.2); or it is `Memory` where memory was
+    /// refused. After an error the place is left open.
     pub fn read_additionals(
         &mut self,
         alloc: Global,
@@ -179,7 +180,7 @@ impl Message {
         ensures only { (m : Message) → Reads bytes.now m → MatchResult result (λ n. n ≡ m) (λ e. e ≡ Memory) }
         // An error is the first fault.
         ensures fault { IfErr result (λ e. e ≢ Memory → Fault bytes.now e) }
-        // The same by the places at which the parts of a message stand, and at which its first fault lies.
+        // By the places at which the parts of a message stand, and at which its first fault lies.
         ensures stands { IfOk result (λ m. MessageAt bytes.now m) }
         ensures standing { (m : Message) → MessageAt bytes.now m → MatchResult result (λ n. n ≡ m) (λ e. e ≡ Memory) }
         ensures faulty { IfErr result (λ e. e ≢ Memory → MessageFault bytes.now e) }

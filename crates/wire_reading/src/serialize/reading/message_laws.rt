@@ -1,4 +1,5 @@
-//! Laws of headers and whole messages, each the contract of a function with nothing to do: how they stand in bytes is how they are read.
+//! Laws of headers and whole messages, each the contract of a function with nothing to do: how they stand in bytes is
+//! how they are read.
 
 ghost use Rattle.std.specs.Prelude.{◌≡◌, ◌↔◌, ◌<◌, ◌%◌, ◌^◌, ℕ, ◌++◌, ◌∷◌, List, [], length, Ok, None, Some, true, false};
 ghost use Rattle.std.specs.List.{AllByRecursion};
@@ -22,7 +23,8 @@ ghost use Rattle.wire_messages.specs.declared.rr.rdata.RData.{RData};
 ghost use Rattle.wire_messages.specs.declared.rr.record.Proof.TheVariants.{Indeterminate};
 ghost use Rattle.wire_messages.specs.declared.rr.record.Record.{Record};
 
-/// A header that stands at the front of bytes is the one that is read there (RFC 1035 section 4.1.1), and the place behind it is 12.
+/// A header that stands at the front of bytes is the one that is read there (RFC 1035 section 4.1.1), and the place
+/// behind it is 12.
 pub fn header_readings()
     ensures { (bytes : List ℕ) (h : Header) → AreBytes bytes → HeaderAt bytes h ↔
         (header (front_of bytes) ≡ Ok (h, record { bytes = bytes; place = 12 })) }
@@ -37,7 +39,8 @@ pub fn header_written_is_read()
         HeaderAt bytes (record h { metadata = record h.metadata { response_code = h.metadata.response_code % 16 } }) }
 {}
 
-/// So many questions, or records of an answer or authority section, are read one behind the other exactly where so many stand so.
+/// So many questions, or records of an answer or authority section, are read one behind the other exactly where so many
+/// stand so.
 pub fn items_readings()
     ensures questions { (bytes : List ℕ) (place n : ℕ) (queries : List Query) (next : ℕ) → AreBytes bytes →
         (ItemsAt (QuestionRead bytes) place queries next × (length queries ≡ n)) ↔
@@ -49,8 +52,8 @@ pub fn items_readings()
         (records, record { bytes = bytes; place = next })) }
 {}
 
-/// The records of an additional section are read one behind the other exactly where they stand so and make an additional section
-/// (RFC 6891 section 6.1.1, RFC 8945 section 5.2).
+/// The records of an additional section are read one behind the other exactly where they stand so and make an
+/// additional section (RFC 6891 section 6.1.1, RFC 8945 section 5.2).
 pub fn additional_readings()
     ensures { (bytes : List ℕ) (place n : ℕ) (x : Additionals) (next : ℕ) → AreBytes bytes →
         ((all : List (Record RData)) × ItemsAt (RecordAt bytes) place all next × (length all ≡ n) ×
@@ -59,7 +62,8 @@ pub fn additional_readings()
         (x, record { bytes = bytes; place = next })) }
 {}
 
-/// A message is read exactly where it stands at the front of the bytes, and as far as it stands there (RFC 1035 section 4.1).
+/// A message is read exactly where it stands at the front of the bytes, and as far as it stands there (RFC 1035 section
+/// 4.1).
 pub fn message_readings()
     ensures reads { (bytes : List ℕ) (m : Message) → AreBytes bytes → Reads bytes m ↔ MessageAt bytes m }
     ensures stops { (bytes : List ℕ) (m : Message) → AreBytes bytes → (at : MessageAt bytes m) →

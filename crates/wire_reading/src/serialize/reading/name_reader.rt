@@ -102,8 +102,8 @@ fn name_with_rest(alloc: Global, labels: &mut Labels, rest: &[u8]) -> Result<Nam
     Ok(labels.to_name(alloc, true)?)
 }
 
-/// Where the byte 0 stands that ends the name at a place, if the name stands there in full: labels one behind the other up
-/// to that byte, without a pointer, and with at most 255 bytes in all. It looks at the length bytes alone.
+/// Where the byte 0 stands that ends the name at a place, if the name stands there in full: labels one behind the other
+/// up to that byte, without a pointer, and with at most 255 bytes in all. It looks at the length bytes alone.
 pub(crate) fn plain_end(bytes: &[u8], from: usize) -> Option<usize>
     ensures within { IfSome result (λ end. (from ≤ end) × (end < length bytes.now)) }
     ensures wire { IfSome result (λ end. IsWire (slice_range bytes.now from end)) }
@@ -124,7 +124,7 @@ pub(crate) fn plain_end(bytes: &[u8], from: usize) -> Option<usize>
     None
 }
 
-/// The same as `read_name_at`, label by label and from pointer to pointer.
+/// The name at a place as `read_name_at` gives it, read label by label and from pointer to pointer.
 fn read_by_labels(
     alloc: Global,
     bytes: &[u8],
@@ -172,8 +172,8 @@ fn read_by_labels(
     }
 }
 
-/// The name at a place, fully qualified, the place behind it, and how many steps were taken behind its first pointer: a step
-/// for each label and each pointer. What is known of the message is not walked again.
+/// The name at a place, fully qualified, the place behind it, and how many steps were taken behind its first pointer: a
+/// step for each label and each pointer. What is known of the message is not walked again.
 pub(crate) fn read_name_at(
     alloc: Global,
     bytes: &[u8],

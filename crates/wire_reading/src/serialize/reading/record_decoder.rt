@@ -25,6 +25,7 @@ use wire_messages::rr::record::{Proof, Record};
 use wire_messages::rr::record_type::RecordType;
 use wire_messages::rr::tsig::TSIG;
 use wire_names::error::DecodeError;
+use wire_names::rr::domain::name::Name;
 use wire_names::values::boxed::Boxed;
 use wire_names::values::items::Items;
 use wire_names::values::octets::Octets;
@@ -229,8 +230,8 @@ impl<'a> BinDecoder<'a> {
         Ok(Edns::from_opt(DNSClass::new(class), ttl, options))
     }
 
-    /// The record at this place (RFC 1035 section 4.1.3): its owner name, type, class and TTL, and its data in the form of
-    /// their type. Nothing is known of its proof.
+    /// The record at this place (RFC 1035 section 4.1.3): its owner name, type, class and TTL, and its data in the form
+    /// of their type. Nothing is known of its proof.
     ///
     /// Data of no bytes are those of a dynamic update, of whatever type (RFC 2136 section 2.4), but for an OPT record,
     /// which then has no options. Data of a type with no form here are kept as bytes (RFC 3597). Options that are
@@ -258,17 +259,16 @@ impl<'a> BinDecoder<'a> {
     fn next_query(&mut self, alloc: Global) -> Result<Query, DecodeError>
         ensures { Gives result self.old self.new question }
     {
-        let name = self.read_name(alloc)?;
-        let kind = self.read_u16()?;
-        let class = self.read_u16()?;
-        Ok(Query {
-            name,
-            query_type: RecordType::new(kind),
-            query_class: DNSClass::new(class),
-        })
+        let mut query = Query {
+            name: Name::root(),
+            query_type: RecordType::new(0),
+            query_class: DNSClass::new(0),
+        };
+        self.read_query_into(alloc, &mut query)?;
+        Ok(query)
     }
 
-    /// The same as `read_query`, in the place of another question.
+    /// Reads a question in the place of another one.
     #[inline(always)]
     #[tactic(auto, unfolding(wire_messages::specs::serialize::reading::RecordReading::question))]
     pub(crate) fn read_query_into(

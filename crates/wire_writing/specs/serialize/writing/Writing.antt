@@ -13,6 +13,8 @@ use Rattle.wire_writing.specs.serialize.writing.OwnerNames.{OwnerPlace, RepeatsO
 use Rattle.wire_messages.specs.serialize.writing.Reply.{Reply, opt_record, reply_lists}
 use Rattle.wire_messages.specs.serialize.writing.ReplyRanges.{IsReplyInRange}
 use Rattle.wire_names.specs.declared.error.ProtoError.{ProtoError}
+use Rattle.wire_writing.specs.declared.serialize.writing.record_encoder.Ending.{Ending}
+use Rattle.wire_writing.specs.declared.serialize.writing.record_encoder.Ending.TheVariants.{Whole, Cut, Stuck}
 use Rattle.wire_messages.specs.declared.op.header.Header.{Header}
 use Rattle.wire_messages.specs.declared.op.header.Metadata.{Metadata}
 use Rattle.wire_messages.specs.declared.op.header.MessageType.TheVariants.{Response}
@@ -44,14 +46,8 @@ PutsRepeating limit before old [] new = new ≡ old
 PutsRepeating limit before old (r ∷ rs) new = (middle : List ℕ) × Puts limit old r middle × RepeatsOwner before middle (length old) r.name.labels
     × PutsRepeating limit (before ++ record { place = length old; labels = r.name.labels } ∷ []) middle rs new
 
--- how the writing of a list of records ended
-pub data ListEnding : Type 0 where
-  whole : ListEnding
-  cut : ListEnding
-  stuck : ProtoError → ListEnding
-
 -- the next record behind so many has a form, and in full it passes the limit
-pub record IsCut (limit : ℕ) (records : List (Record RData)) (count : ℕ) (new : List ℕ) : Type 0 where
+pub record IsLeftOut (limit : ℕ) (records : List (Record RData)) (count : ℕ) (new : List ℕ) : Type 0 where
   pub next : Record RData
   pub rest : List (Record RData)
   pub is : drop count records ≡ next ∷ rest
@@ -66,13 +62,13 @@ pub record IsStuck (records : List (Record RData)) (count : ℕ) (e : ProtoError
   pub formless : unwritable_reason next.rdata ≡ Some e
 
 -- Nothing is left behind the records that were put, or the next one is left out for its size, or it has no form.
-abbrev pub Ends : ℕ → List (Record RData) → ℕ → List ℕ → ListEnding → Type 0
-Ends limit records count new whole = count ≡ length records
-Ends limit records count new cut = IsCut limit records count new
-Ends limit records count new (stuck e) = IsStuck records count e
+abbrev pub Ends : ℕ → List (Record RData) → ℕ → List ℕ → Ending → Type 0
+Ends limit records count new Whole = count ≡ length records
+Ends limit records count new Cut = IsLeftOut limit records count new
+Ends limit records count new (Stuck e) = IsStuck records count e
 
 -- The first records of a list, so many, are put behind old, and then the writing of the list ends so.
-pub record ListWritten (limit : ℕ) (old : List ℕ) (records : List (Record RData)) (new : List ℕ) (count : ℕ) (ending : ListEnding) : Type 0 where
+pub record ListWritten (limit : ℕ) (old : List ℕ) (records : List (Record RData)) (new : List ℕ) (count : ℕ) (ending : Ending) : Type 0 where
   pub counted : count ≤ length records
   pub puts : PutsAll limit old (take count records) new
   pub ends : Ends limit records count new ending
@@ -82,9 +78,9 @@ pub record ListFront : Type 0 where
   pub count : ℕ
   pub is_cut : Bool
 
-abbrev pub ending_of : Bool → ListEnding
-ending_of true = cut
-ending_of false = whole
+abbrev pub ending_of : Bool → Ending
+ending_of true = Cut
+ending_of false = Whole
 
 -- nothing of a list was put
 abbrev pub nothing_put : ListFront
@@ -98,7 +94,7 @@ pub data ListsWritten (limit : ℕ) : List (List (Record RData)) → List ℕ �
       → ListWritten limit old records middle front.count (ending_of front.is_cut) → ListsWritten limit lists middle new fronts fault
       → ListsWritten limit (records ∷ lists) old new (front ∷ fronts) fault
   stuck_list : {records : List (Record RData)} {lists : List (List (Record RData))} {old new : List ℕ} {front : ListFront} {fronts : List ListFront} {e : ProtoError}
-      → ListWritten limit old records new front.count (stuck e) → front.is_cut ≡ false → fronts ≡ map (λ list. nothing_put) lists
+      → ListWritten limit old records new front.count (Stuck e) → front.is_cut ≡ false → fronts ≡ map (λ list. nothing_put) lists
       → ListsWritten limit (records ∷ lists) old new (front ∷ fronts) (Some e)
 
 -- what was written of each of a reply's lists

@@ -3,7 +3,7 @@
 ghost use Rattle.std.specs.Prelude.{◌≡◌, ℕ, ◌+◌, ◌<◌, ◌≤◌, ◌∷◌, ◌||◌, [], length, take, List, Bool, OnOk, IfOk, IfSome, None, option_to_list, option_map};
 ghost use Rattle.std.specs.Iterator.{IsFinite};
 ghost use Rattle.std.specs.Option.{option_copied};
-ghost use Rattle.wire_writing.specs.representation.Endings.{GivesRecords, ListAdds, NotedRun, seen_ending, count_of_one, fault_of, is_cut_by};
+ghost use Rattle.wire_writing.specs.representation.Endings.{GivesRecords, ListAdds, NotedRun, count_of_one, fault_of, is_cut_by};
 ghost use Rattle.wire_messages.specs.serialize.layout.MessageLayout.{tsig_record};
 ghost use Rattle.wire_messages.specs.serialize.writing.Reply.{opt_record};
 ghost use Rattle.wire_messages.specs.serialize.writing.ReplyRanges.{IsEdnsInRange};
@@ -93,7 +93,7 @@ fn write_records<'n, 'a: 'n, I: Iterator<Item = &'a Record> + Drop>(
     requires noted { AreNotes bytes.old.items (length bytes.old.items) table.old }
     ensures written { IfOk result (λ run. (all : List (Record RData)) ×
         GivesRecords I.next_gives records all ×
-        ListWritten limit bytes.old.items all bytes.new.items run.count (seen_ending run.ending) ×
+        ListWritten limit bytes.old.items all bytes.new.items run.count run.ending ×
         NotedRun limit bytes.old.items table.old (take run.count all) bytes.new.items table.new) }
     ensures header { OnOk result (12 ≤ length bytes.new.items) }
     ensures fits { OnOk result (length bytes.new.items ≤ limit) }

@@ -1,9 +1,9 @@
 use Rattle.std.proofs.Common.{◌≡◌, ◌≤◌, ◌<◌, Result, Ok, Err, IfOk, List, ℕ, length, rules, arith}
-use Rattle.hickory_server.specs.server.Cut.{IsCut}
+use Rattle.hickory_server.specs.server.Fitted.{IsFitted}
 use Rattle.hickory_server.specs.server.ServedBy.{IsBounded}
 use Rattle.hickory_server.proofs.server.datagrams.bounded.Goals as goal
 
-shorter : {E : Type 0} (limit : ℕ) (reply : List ℕ) (result : Result (List ℕ) E) → limit < length reply → IfOk result (λ bytes. length bytes ≤ limit) → IfOk result (IsCut limit reply)
+shorter : {E : Type 0} (limit : ℕ) (reply : List ℕ) (result : Result (List ℕ) E) → limit < length reply → IfOk result (λ bytes. length bytes ≤ limit) → IfOk result (IsFitted limit reply)
     → IfOk result (IsBounded limit reply)
 shorter limit reply (Ok bytes) long within cut = (within, λ fits. absurd (omega (arith, long, fits)), λ _. cut)
 shorter limit reply (Err e) long within cut = tt

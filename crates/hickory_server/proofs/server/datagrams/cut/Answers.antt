@@ -1,5 +1,5 @@
 use Rattle.std.proofs.Common.{◌≡◌, Result, Ok, Err, IfOk, rules}
-use Rattle.hickory_server.specs.server.Cut.{id_of, read, unread}
+use Rattle.hickory_server.specs.server.Fitted.{id_of, read, unread}
 use Rattle.hickory_server.proofs.server.datagrams.cut.Goals.{in-Ok, in-Err-Memory, in-Err}
 use Rattle.hickory_server.proofs.server.datagrams.cut.Goals as goal
 

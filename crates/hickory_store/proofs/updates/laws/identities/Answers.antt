@@ -1,5 +1,6 @@
-use Rattle.hickory_store.proofs.lemmas.updates.NamesInZones.{encloses_from_end, end_from_encloses}
+use Rattle.std.specs.Prelude.{refl}
+use Rattle.wire_names.proofs.lemmas.rr.domain.Ends.{ends-decides}
 use Rattle.hickory_store.proofs.updates.laws.identities.Goals as goal
 
 pub returns-clause-zones : goal.returns-clause-zones
-returns-clause-zones c origin name = (encloses_from_end origin.labels name.labels, end_from_encloses origin.labels name.labels)
+returns-clause-zones c origin name = ends-decides origin.labels name.labels _ refl

@@ -67,7 +67,7 @@ data_formed bytes place next (rdata.PTR x) at = at.1
 data_formed bytes place next (rdata.MX x) at = at.1
 data_formed bytes place next (rdata.SOA x) at = at.1
 data_formed bytes place next (rdata.TXT x) at = at.1
-data_formed bytes place next (rdata.OPT x) at = options_formed at.2
+data_formed bytes place next (rdata.OPT x) at = (options_formed at.2, tt)
 data_formed bytes place next (rdata.TSIG x) at = at.1
 data_formed bytes place next (rdata.NULL x) at = at.1
 data_formed bytes place next (rdata.Update0 x) at = at.1
@@ -101,9 +101,9 @@ has_form (rdata.CNAME x) f small = fits _ (omega arith)
 has_form (rdata.PTR x) f small = fits _ (omega arith)
 has_form (rdata.MX x) f small = fits _ (omega arith)
 has_form (rdata.SOA x) f small = fits _ (omega arith)
-has_form (rdata.TXT x) f small = rw (no_long x f.1) (fits _ (omega arith))
+has_form (rdata.TXT x) f small = rw (no_long x f.0) (fits _ (omega arith))
 has_form (rdata.OPT x) f small = fits _ (omega arith)
-has_form (rdata.TSIG x) f small = let time = lt-leb (2 ^ 48) x.time f.0 in rw time (fits _ (omega arith))
+has_form (rdata.TSIG x) f small = let time = lt-leb (2 ^ 48) x.time f.0.0 in rw time (fits _ (omega arith))
 has_form (rdata.NULL x) f small = fits _ (omega arith)
 has_form (rdata.Update0 x) f small = refl
 has_form (rdata.Unknown x o) f small = fits _ (omega arith)

@@ -10,8 +10,8 @@ use Rattle.wire_reading.specs.serialize.layout.WholeMessage.{MessageAt}
 use Rattle.wire_reading.specs.serialize.reading.MessageReading.{Reads}
 use Rattle.wire_messages.specs.serialize.layout.RecordLayout.{RecordAt}
 use Rattle.wire_messages.specs.serialize.writing.Reply.{Reply, opt_record}
-use Rattle.wire_writing.specs.serialize.writing.Writing as writing
 use Rattle.wire_writing.specs.serialize.writing.Writing.{PutsAll, ListWritten, ListFront, ListsWritten, Fronts, fronts_list, ending_of, Written, header_and_questions, written_header}
+use Rattle.wire_writing.specs.declared.serialize.writing.record_encoder.Ending.{Ending}
 use Rattle.wire_writing.specs.serialize.writing.Writing.ListsWritten.{none_left, next_list, stuck_list}
 use Rattle.wire_messages.specs.declared.op.query.Query.{Query}
 use Rattle.wire_messages.specs.declared.rr.rdata.RData.{RData}
@@ -31,7 +31,7 @@ record Part (limit : ℕ) (old : List ℕ) (records : List (Record RData)) (new 
   longer : length old + count ≤ length new
   within : length old ≤ limit → length new ≤ limit
 
-part : (limit : ℕ) (old : List ℕ) (records : List (Record RData)) (new : List ℕ) (count : ℕ) (ending : writing.ListEnding) → ListWritten limit old records new count ending → Part limit old records new count
+part : (limit : ℕ) (old : List ℕ) (records : List (Record RData)) (new : List ℕ) (count : ℕ) (ending : Ending) → ListWritten limit old records new count ending → Part limit old records new count
 part limit old records new count ending w =
     let front = take count records in
     record {

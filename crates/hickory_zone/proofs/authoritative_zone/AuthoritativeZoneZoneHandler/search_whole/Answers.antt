@@ -7,11 +7,11 @@ use Rattle.hickory_base.specs.declared.errors.LookupError.{LookupError}
 use Rattle.hickory_base.specs.declared.zone_store.lookup.AuthLookup.TheVariants as lookup
 use Rattle.hickory_base.specs.declared.zone_store.lookup.WholeReply.{WholeReply}
 use Rattle.hickory_zone.specs.Handled.{SearchedFor, in_whole}
-use Rattle.hickory_zone.specs.Replies.{RepliesTo, zone_of}
+use Rattle.hickory_zone.specs.Replies.{RepliesTo, as_zone}
 use Rattle.hickory_zone.proofs.authoritative_zone.AuthoritativeZoneZoneHandler.search_whole.Goals as goal
 
 -- the whole reply to the one question
-replied_whole : (zone : MemoryZone) (asked : Result Query LookupError) (query : Query) (reply : WholeReply) → asked ≡ Ok query → RepliesTo (zone_of zone) query reply → SearchedFor zone asked (whole_answer reply)
+replied_whole : (zone : MemoryZone) (asked : Result Query LookupError) (query : Query) (reply : WholeReply) → asked ≡ Ok query → RepliesTo (as_zone zone) query reply → SearchedFor zone asked (whole_answer reply)
 replied_whole zone asked query reply is told = subst (λ (q : Result Query LookupError). SearchedFor zone q (whole_answer reply)) (sym is) (Ok (lookup.Whole reply), inl (in_whole told), refl)
 
 pub returns : goal.returns

@@ -9,9 +9,9 @@ use Rattle.std.specs.declared.net.ipv6_addr.Ipv6Addr.{Ipv6Addr}
 use Rattle.wire_messages.specs.rr.Addresses.{IsIpv6}
 use Rattle.wire_messages.proofs.lemmas.rr.AddressOctets.{octets_len}
 use Rattle.wire_names.specs.serialize.layout.Bytes.{AreBytes}
-use Rattle.wire_messages.specs.serialize.layout.FieldRanges.{IsInRange, IsRecordInRange, IsReadAsItsType}
+use Rattle.wire_messages.specs.serialize.layout.FieldRanges.{IsRecordInRange, IsReadAsItsType}
 use Rattle.wire_messages.specs.serialize.layout.NameLayout.{IsFullyQualified}
-use Rattle.wire_messages.specs.serialize.layout.RecordLayout.{IsFormed, IsFormedRecord}
+use Rattle.wire_messages.specs.serialize.layout.RecordLayout.{IsFormedRecord}
 use Rattle.wire_messages.specs.serialize.writing.RecordSize.{data_len, unwritable_reason, length_fault}
 use Rattle.wire_names.specs.declared.error.ProtoError.{ProtoError}
 use Rattle.wire_names.specs.declared.error.ProtoError.TheVariants.{CharacterDataTooLong}
@@ -20,41 +20,11 @@ use Rattle.wire_messages.specs.declared.rr.rdata.RData.TheVariants as rdata
 use Rattle.wire_messages.specs.declared.rr.record.Proof.TheVariants.{Indeterminate}
 use Rattle.wire_messages.specs.declared.rr.record.Record.{Record}
 
-pub data_formed : (d : RData) → IsInRange d → IsReadAsItsType d → IsFormed d
-data_formed (rdata.A x) i t = i
-data_formed (rdata.AAAA x) i t = i
-data_formed (rdata.NS x) i t = t
-data_formed (rdata.CNAME x) i t = t
-data_formed (rdata.PTR x) i t = t
-data_formed (rdata.MX x) i t = (i, t)
-data_formed (rdata.SOA x) i t = (i.0, i.1, i.2, i.3, i.4, t.0, t.1)
-data_formed (rdata.TXT x) i t = (t, i)
-data_formed (rdata.OPT x) i t = i
-data_formed (rdata.TSIG x) i t = (i.0, i.1, i.2, i.3, i.4, i.5, t)
-data_formed (rdata.NULL x) i t = t
-data_formed (rdata.Update0 x) i t = (i, t.0, t.1)
-data_formed (rdata.Unknown x o) i t = (i, t.0, t.1, t.2, t.3, t.4, t.5, t.6, t.7, t.8, t.9, t.10, t.11)
-
-pub data_parts : (d : RData) → IsFormed d → IsInRange d × IsReadAsItsType d
-data_parts (rdata.A x) f = (f, tt)
-data_parts (rdata.AAAA x) f = (f, tt)
-data_parts (rdata.NS x) f = (tt, f)
-data_parts (rdata.CNAME x) f = (tt, f)
-data_parts (rdata.PTR x) f = (tt, f)
-data_parts (rdata.MX x) f = f
-data_parts (rdata.SOA x) f = ((f.0, f.1, f.2, f.3, f.4), (f.5, f.6))
-data_parts (rdata.TXT x) f = (f.1, f.0)
-data_parts (rdata.OPT x) f = (f, tt)
-data_parts (rdata.TSIG x) f = ((f.0, f.1, f.2, f.3, f.4, f.5), f.6)
-data_parts (rdata.NULL x) f = (tt, f)
-data_parts (rdata.Update0 x) f = (f.0, (f.1, f.2))
-data_parts (rdata.Unknown x o) f = (f.0, (f.1, f.2, f.3, f.4, f.5, f.6, f.7, f.8, f.9, f.10, f.11, f.12))
-
 pub record_formed : (r : Record RData) → IsRecordInRange r → IsFullyQualified r.name → IsReadAsItsType r.rdata → r.proof ≡ Indeterminate → IsFormedRecord r
-record_formed r i n t p = record { name = n; class = i.class; ttl = i.ttl; rdata = data_formed r.rdata i.rdata t; proof = p }
+record_formed r i n t p = record { name = n; class = i.class; ttl = i.ttl; rdata = (i.rdata, t); proof = p }
 
 pub record_parts : (r : Record RData) → IsFormedRecord r → IsRecordInRange r × IsFullyQualified r.name × IsReadAsItsType r.rdata × (r.proof ≡ Indeterminate)
-record_parts r f = let d = data_parts r.rdata f.rdata in (record { class = f.class; ttl = f.ttl; rdata = d.0 }, f.name, d.1, f.proof)
+record_parts r f = (record { class = f.class; ttl = f.ttl; rdata = f.rdata.0 }, f.name, f.rdata.1, f.proof)
 
 all_more : {X : Type 0} (P : X → Type 0) (xs : List X) (x : X) → AllByRecursion P xs → P x → AllByRecursion P (xs ++ x ∷ [])
 all_more P [] x h p = (p, tt)

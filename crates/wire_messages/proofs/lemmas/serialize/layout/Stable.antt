@@ -1,4 +1,5 @@
--- A name stays where it is when bytes are added, and when bytes below its floor change; bytes have at most one name at a place.
+-- A name stays where it is when bytes are added, and when bytes below its floor change; bytes have at most one name at
+-- a place.
 use Rattle.std.proofs.Common.{◌≡◌, ℕ, suc, ◌+◌, ◌≤◌, List, ◌∷◌, ◌++◌, length, get_or, refl, sym, ap, ◌∙◌, arith, length-append}
 use Rattle.std.proofs.lemmas.List.{get_or_append_left, get_or-append-add, ext_get_or}
 use Rattle.wire_names.specs.rr.domain.DomainName.{DomainName}

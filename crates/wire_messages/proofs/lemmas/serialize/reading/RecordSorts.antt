@@ -31,8 +31,8 @@ sort_of bytes place (rdata.TXT strings) next d = other refl refl (λ x r. refl)
 sort_of bytes place (rdata.OPT options) next d = an_opt options refl
 sort_of bytes place (rdata.TSIG signature) next d = a_tsig signature refl
 sort_of bytes place (rdata.NULL octets) next d = other refl refl (λ x r. refl)
-sort_of bytes place (rdata.Update0 code) next d = other (ne_eqb code 41 d.1.1) (ne_eqb code 250 d.1.2) (λ x r. refl)
-sort_of bytes place (rdata.Unknown code octets) next d = other (ne_eqb code 41 d.1.11) (ne_eqb code 250 d.1.12) (λ x r. refl)
+sort_of bytes place (rdata.Update0 code) next d = other (ne_eqb code 41 d.1.1.0) (ne_eqb code 250 d.1.1.1) (λ x r. refl)
+sort_of bytes place (rdata.Unknown code octets) next d = other (ne_eqb code 41 d.1.1.10) (ne_eqb code 250 d.1.1.11) (λ x r. refl)
 
 -- each record's data are of some sort
 abbrev pub AreSorted : List (Record RData) → Type 0

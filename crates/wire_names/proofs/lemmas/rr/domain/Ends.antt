@@ -2,7 +2,7 @@
 use Rattle.std.proofs.Common.{◌≡◌, ◌↔◌, ◌⊎◌, inl, inr, ℕ, zero, suc, ◌+◌, ◌<◌, ◌≤◌, Bool, true, false, ◌&&◌, ◌||◌, List, [], ◌∷◌, ◌++◌, length, map, drop, get_or, refl, sym, ap, ◌∙◌, subst, arith, length-append}
 use Rattle.std.specs.Ordering.{nat_cmp, eq_by_cmp, is_eq}
 use Rattle.std.specs.Char.{to_ascii_lowercase}
-use Rattle.std.specs.Cmp.Lexicographic.{slice_cmp, pointwise, nat_list_cmp_total}
+use Rattle.std.specs.Cmp.Lexicographic.{slice_cmp, nat_list_cmp_total}
 use Rattle.std.specs.List.{AllByRecursion}
 use Rattle.std.proofs.lemmas.Map.Lookups.{exact_bytes}
 use Rattle.std.proofs.lemmas.List.{length-map, get_or-drop, drop_at}
@@ -11,19 +11,10 @@ use Rattle.std.proofs.lemmas.List.Elements.{recursion_from_All, All-from_recursi
 use Rattle.std.specs.Str.{bytes_eq}
 use Rattle.wire_names.specs.rr.domain.DomainName.{wire_form, cut, IsLabel, AreLabels, IsWire}
 use Rattle.std.specs.Bool.{IsTrue}
-use Rattle.wire_names.specs.rr.domain.NameOrder.{lower_label, lower_labels, label_cmp, Encloses}
+use Rattle.wire_names.specs.rr.domain.NameOrder.{lower_label, lower_labels, label_cmp, same_labels, encloses, Encloses}
 use Rattle.wire_names.proofs.lemmas.rr.domain.WireForm.{name_len-wire_form, is_wire_of, cut_of}
 use Rattle.wire_names.specs.representation.NameHash.{equal_is}
 use Rattle.wire_names.proofs.lemmas.rr.domain.SameNames.{lower-wire, lower-wire_all, wire-same, both_ways, eq_is, eq_from, same_cmp, is_false}
-
--- these labels are the same, letter case aside
-abbrev pub same_labels : List (List ℕ) → List (List ℕ) → Bool
-same_labels = pointwise (eq_by_cmp label_cmp)
-
--- ns are the labels at the end of ms
-abbrev pub ends : List (List ℕ) → List (List ℕ) → Bool
-ends ns [] = same_labels ns []
-ends ns (m ∷ ms) = same_labels ns (m ∷ ms) || ends ns ms
 
 and_parts : (a b : Bool) → (a && b) ≡ true → (a ≡ true) × (b ≡ true)
 and_parts true b h = (refl, h)
@@ -75,23 +66,23 @@ or_second : (a b : Bool) → b ≡ true → (a || b) ≡ true
 or_second true b h = refl
 or_second false b h = h
 
-ends-same : (ns ms : List (List ℕ)) → lower_labels ms ≡ lower_labels ns → ends ns ms ≡ true
+ends-same : (ns ms : List (List ℕ)) → lower_labels ms ≡ lower_labels ns → encloses ns ms ≡ true
 ends-same ns [] h = unfolded ns [] (sym h)
-ends-same ns (m ∷ ms) h = or_first (same_labels ns (m ∷ ms)) (ends ns ms) (unfolded ns (m ∷ ms) (sym h))
+ends-same ns (m ∷ ms) h = or_first (same_labels ns (m ∷ ms)) (encloses ns ms) (unfolded ns (m ∷ ms) (sym h))
 
-ends-encloses : (ns ms : List (List ℕ)) → ends ns ms ≡ true → Encloses ns ms
+ends-encloses : (ns ms : List (List ℕ)) → encloses ns ms ≡ true → Encloses ns ms
 ends-encloses ns [] h = record { front = []; ends = sym (folded ns [] h) }
-ends-encloses ns (m ∷ ms) h = elim (or_parts (same_labels ns (m ∷ ms)) (ends ns ms) h) [
+ends-encloses ns (m ∷ ms) h = elim (or_parts (same_labels ns (m ∷ ms)) (encloses ns ms) h) [
   | inl same ↦ record { front = []; ends = sym (folded ns (m ∷ ms) same) }
   | inr more ↦ let e : Encloses ns ms = ends-encloses ns ms more in record { front = lower_label m ∷ e.front; ends = ap (λ ls. lower_label m ∷ ls) e.ends }
 ]
 
-encloses-ends : (ns ms front : List (List ℕ)) → lower_labels ms ≡ front ++ lower_labels ns → ends ns ms ≡ true
+encloses-ends : (ns ms front : List (List ℕ)) → lower_labels ms ≡ front ++ lower_labels ns → encloses ns ms ≡ true
 encloses-ends ns ms [] h = ends-same ns ms h
 encloses-ends ns [] (f ∷ fs) h = absurd (cc)
-encloses-ends ns (m ∷ ms) (f ∷ fs) h = or_second (same_labels ns (m ∷ ms)) (ends ns ms) (encloses-ends ns ms fs cc)
+encloses-ends ns (m ∷ ms) (f ∷ fs) h = or_second (same_labels ns (m ∷ ms)) (encloses ns ms) (encloses-ends ns ms fs cc)
 
-pub ends-decides : (ns ms : List (List ℕ)) (b : Bool) → b ≡ ends ns ms → IsTrue b ↔ Encloses ns ms
+pub ends-decides : (ns ms : List (List ℕ)) (b : Bool) → b ≡ encloses ns ms → IsTrue b ↔ Encloses ns ms
 ends-decides ns ms b e = (λ h. ends-encloses ns ms (sym e ∙ h), λ k. e ∙ encloses-ends ns ms k.front k.ends)
 
 folded-size : (a : List (List ℕ)) → length (wire_form (map lower_label a)) ≡ length (wire_form a)
@@ -104,13 +95,13 @@ same-size a b h = sym (folded-size a) ∙ ap (λ ls. length (wire_form ls)) (fol
 pub differs : (a b : List (List ℕ)) → (length (wire_form a) ≡ length (wire_form b) → ⊥) → same_labels a b ≡ false
 differs a b h = is_false (same_labels a b) (λ e. h (same-size a b e))
 
-pub too_long : (ns ms : List (List ℕ)) → length (wire_form ms) < length (wire_form ns) → ends ns ms ≡ false
+pub too_long : (ns ms : List (List ℕ)) → length (wire_form ms) < length (wire_form ns) → encloses ns ms ≡ false
 too_long ns [] h = differs ns [] (λ e. omega arith)
 too_long ns (m ∷ ms) h =
-    ap (λ b. b || ends ns ms) (differs ns (m ∷ ms) (λ e. omega arith)) ∙ too_long ns ms (omega (arith, length-append m (wire_form ms)))
+    ap (λ b. b || encloses ns ms) (differs ns (m ∷ ms) (λ e. omega arith)) ∙ too_long ns ms (omega (arith, length-append m (wire_form ms)))
 
 -- no more than as many bytes are left
-pub ends_here : (ns ms : List (List ℕ)) → AllByRecursion IsLabel ns → AllByRecursion IsLabel ms → length (wire_form ms) ≤ length (wire_form ns) → bytes_eq (map to_ascii_lowercase (wire_form ns)) (map to_ascii_lowercase (wire_form ms)) ≡ ends ns ms
+pub ends_here : (ns ms : List (List ℕ)) → AllByRecursion IsLabel ns → AllByRecursion IsLabel ms → length (wire_form ms) ≤ length (wire_form ns) → bytes_eq (map to_ascii_lowercase (wire_form ns)) (map to_ascii_lowercase (wire_form ms)) ≡ encloses ns ms
 ends_here ns [] p q h = sym (same_flat ns [] p q)
 ends_here ns (m ∷ ms) p q h =
     sym (same_flat ns (m ∷ ms) p q) ∙ or_false (same_labels ns (m ∷ ms)) ∙ ap (λ b. same_labels ns (m ∷ ms) || b) (sym (too_long ns ms (omega (arith, length-append m (wire_form ms)))))
@@ -121,14 +112,14 @@ pub record Left (ns all : List (List ℕ)) (bytes : List ℕ) (place : ℕ) : Ty
   pub stand : drop place bytes ≡ wire_form labels
   pub are : AllByRecursion IsLabel labels
   pub size : place + length (wire_form labels) ≡ length bytes
-  pub same : ends ns labels ≡ ends ns all
+  pub same : encloses ns labels ≡ encloses ns all
 
 pub record Next (ns all : List (List ℕ)) (bytes : List ℕ) (place n : ℕ) : Type 0 where
   pub left : Left ns all bytes (place + (1 + n))
   pub fits : place + (1 + n) ≤ length bytes
 
 step_on : (ns all : List (List ℕ)) (bytes : List ℕ) (place : ℕ) (labels : List (List ℕ)) → drop place bytes ≡ wire_form labels → AllByRecursion IsLabel labels → place + length (wire_form labels) ≡ length bytes
-    → ends ns labels ≡ ends ns all → length (wire_form ns) < length (wire_form labels) → Next ns all bytes place (get_or bytes place 0)
+    → encloses ns labels ≡ encloses ns all → length (wire_form ns) < length (wire_form labels) → Next ns all bytes place (get_or bytes place 0)
 step_on ns all bytes place [] stand are size same more = absurd (omega arith)
 step_on ns all bytes place (l ∷ ls) stand are size same more =
     let here : place ≡ place + 0 = omega arith in
@@ -140,7 +131,7 @@ step_on ns all bytes place (l ∷ ls) stand are size same more =
       stand = behind;
       are = are.1;
       size = omega arith;
-      same = ap (λ b. b || ends ns ls) (sym (differs ns (l ∷ ls) (λ e. omega arith))) ∙ same;
+      same = ap (λ b. b || encloses ns ls) (sym (differs ns (l ∷ ls) (λ e. omega arith))) ∙ same;
     } in
     subst (λ n. Next ns all bytes place n) (sym count) (record { left = left; fits = omega arith })
 

@@ -29,7 +29,8 @@ greater_is a b l = sym (nat_cmp_is a b Greater l)
 equal_is : (a : ℕ) → nat_cmp a a ≡ Equal
 equal_is a = sym (nat_cmp_is a a Equal refl)
 
--- The first n bytes of two lists, read as numbers, decide where these differ; where they do not, the bytes are the same.
+-- The first n bytes of two lists, read as numbers, decide where these differ; where they do not, the bytes are the
+-- same.
 pub record Words (xs ys : List ℕ) (n v w : ℕ) : Type 0 where
   pub apart : (v ≡ w → ⊥) → slice_cmp nat_cmp xs ys ≡ nat_cmp v w
   pub alike : v ≡ w → take n xs ≡ take n ys

@@ -63,7 +63,8 @@ padded (a ∷ cs) (b ∷ bs) p q e =
     then_then (nat_cmp a b) rest (nat_cmp (length (a ∷ cs)) (length (b ∷ bs)))
     ∙ ap (ordering_then (nat_cmp a b)) (ap (ordering_then rest) (sym (both_more (length cs) (length bs) _ (ranked (length cs) (length bs) _ refl))) ∙ padded cs bs p q (omega (arith, e)))
 
--- Two rooms of as many places, with zeros behind the bytes that they hold, compare as the bytes do, but for how many they hold.
+-- Two rooms of as many places, with zeros behind the bytes that they hold, compare as the bytes do, but for how many
+-- they hold.
 pub by_rooms : (room m n : ℕ) (xs ys : List ℕ) → length xs ≡ room → length ys ≡ room → m ≤ room → n ≤ room
     → drop m xs ≡ replicate (room - m) zero → drop n ys ≡ replicate (room - n) zero
     → ordering_then (slice_cmp nat_cmp xs ys) (nat_cmp m n) ≡ slice_cmp nat_cmp (take m xs) (take n ys)

@@ -1,4 +1,5 @@
--- So many records of the additional section are read exactly where they stand one behind the other and make an additional section.
+-- So many records of the additional section are read exactly where they stand one behind the other and make an
+-- additional section.
 use Rattle.std.proofs.Common.{◌≡◌, ℕ, zero, suc, List, [], ◌∷◌, length, Ok, refl, sym, ap, subst, arith}
 use Rattle.wire_names.specs.serialize.layout.Bytes.{AreBytes}
 use Rattle.wire_messages.specs.serialize.reading.Cursor.{Cursor}

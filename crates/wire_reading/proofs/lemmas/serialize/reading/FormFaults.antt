@@ -230,11 +230,11 @@ unfolding form
 form_err bytes a kind len p e within some =
     let P : ℕ → Type 0 = λ n. formed n len (here bytes p) ≡ Err e → DataFormFault bytes p len n e in
     let fits : p ≤ length bytes = omega arith in
-    stage 1 kind P (λ h. octets_err bytes a 1 len 4 p (λ o. rdata.A (ipv4_of o)) e fits h ipv4_missing (λ o next s b t. (tt, (t, record { four = s }), refl))) (λ n1.
-    stage 28 kind P (λ h. octets_err bytes a 28 len 16 p (λ o. rdata.AAAA (ipv6_of o)) e fits h ipv6_missing (λ o next s b t. (tt, aaaa_is o p next s b t, refl))) (λ n28.
-    stage 2 kind P (λ h. named_err bytes a 2 len p rdata.NS e h ns_faulty (λ n next t q. (tt, (t, q), refl))) (λ n2.
-    stage 5 kind P (λ h. named_err bytes a 5 len p rdata.CNAME e h cname_faulty (λ n next t q. (tt, (t, q), refl))) (λ n5.
-    stage 12 kind P (λ h. named_err bytes a 12 len p rdata.PTR e h ptr_faulty (λ n next t q. (tt, (t, q), refl))) (λ n12.
+    stage 1 kind P (λ h. octets_err bytes a 1 len 4 p (λ o. rdata.A (ipv4_of o)) e fits h ipv4_missing (λ o next s b t. (tt, (t, (record { four = s }, tt)), refl))) (λ n1.
+    stage 28 kind P (λ h. octets_err bytes a 28 len 16 p (λ o. rdata.AAAA (ipv6_of o)) e fits h ipv6_missing (λ o next s b t. let f = aaaa_is o p next s b t in (tt, (f.0, (f.1, tt)), refl))) (λ n28.
+    stage 2 kind P (λ h. named_err bytes a 2 len p rdata.NS e h ns_faulty (λ n next t q. (tt, (t, (tt, q)), refl))) (λ n2.
+    stage 5 kind P (λ h. named_err bytes a 5 len p rdata.CNAME e h cname_faulty (λ n next t q. (tt, (t, (tt, q)), refl))) (λ n5.
+    stage 12 kind P (λ h. named_err bytes a 12 len p rdata.PTR e h ptr_faulty (λ n next t q. (tt, (t, (tt, q)), refl))) (λ n12.
     stage 15 kind P (mx_err bytes a len p e fits) (λ n15.
     stage 6 kind P (soa_err bytes a len p e fits) (λ n6.
     stage 16 kind P (text_err bytes len p e within) (λ n16.
@@ -250,11 +250,11 @@ form_err bytes a kind len p e within some =
 -- data that end themselves are read as far as they stand, whatever their length
 own_read : (bytes : List ℕ) (p len next : ℕ) (d : RData) → EndsItself d → DataRead bytes p d next → form (type_of d) len (here bytes p) ≡ read_here d bytes next
 unfolding form
-own_read bytes p len next (rdata.A x) own (at, f) = rw (octets_here bytes p next 4 x.octets at.stands (sym f.four) (omega (arith, at.after, f.four))) refl
-own_read bytes p len next (rdata.AAAA x) own (at, f) = aaaa_here 0 bytes p next x f at
-own_read bytes p len next (rdata.NS n) own (at, f) = rw (name_here 0 bytes p next n f at) refl
-own_read bytes p len next (rdata.CNAME n) own (at, f) = rw (name_here 0 bytes p next n f at) refl
-own_read bytes p len next (rdata.PTR n) own (at, f) = rw (name_here 0 bytes p next n f at) refl
+own_read bytes p len next (rdata.A x) own (at, f) = rw (octets_here bytes p next 4 x.octets at.stands (sym f.0.four) (omega (arith, at.after, f.0.four))) refl
+own_read bytes p len next (rdata.AAAA x) own (at, f) = aaaa_here 0 bytes p next x f.0 at
+own_read bytes p len next (rdata.NS n) own (at, f) = rw (name_here 0 bytes p next n f.1 at) refl
+own_read bytes p len next (rdata.CNAME n) own (at, f) = rw (name_here 0 bytes p next n f.1 at) refl
+own_read bytes p len next (rdata.PTR n) own (at, f) = rw (name_here 0 bytes p next n f.1 at) refl
 own_read bytes p len next (rdata.MX m) own (at, f) = mx_here 0 bytes p next m f at
 own_read bytes p len next (rdata.SOA s) own (at, f) = soa_here 0 bytes p next s f at
 own_read bytes p len next (rdata.TSIG t) own (at, f) = tsig_here 0 bytes p next t f at

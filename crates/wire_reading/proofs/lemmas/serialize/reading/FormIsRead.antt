@@ -52,12 +52,12 @@ soa_here floor bytes place next s f at =
     let s3 = BytesAt-right bytes (two + 4) (to_be_bytes w32 s.refresh) (to_be_bytes w32 s.retry ++ to_be_bytes w32 s.expire ++ to_be_bytes w32 s.minimum) s2 in
     let s4 = BytesAt-right bytes (two + 4 + 4) (to_be_bytes w32 s.retry) (to_be_bytes w32 s.expire ++ to_be_bytes w32 s.minimum) s3 in
     let s5 = BytesAt-right bytes (two + 4 + 4 + 4) (to_be_bytes w32 s.expire) (to_be_bytes w32 s.minimum) s4 in
-    let n1 = number32_here bytes two (two + 4) s.serial f.0 (BytesAt-left bytes two (to_be_bytes w32 s.serial) (to_be_bytes w32 s.refresh ++ to_be_bytes w32 s.retry ++ to_be_bytes w32 s.expire ++ to_be_bytes w32 s.minimum) s1) refl in
-    let n2 = number32_here bytes (two + 4) (two + 4 + 4) s.refresh f.1 (BytesAt-left bytes (two + 4) (to_be_bytes w32 s.refresh) (to_be_bytes w32 s.retry ++ to_be_bytes w32 s.expire ++ to_be_bytes w32 s.minimum) s2) refl in
-    let n3 = number32_here bytes (two + 4 + 4) (two + 4 + 4 + 4) s.retry f.2 (BytesAt-left bytes (two + 4 + 4) (to_be_bytes w32 s.retry) (to_be_bytes w32 s.expire ++ to_be_bytes w32 s.minimum) s3) refl in
-    let n4 = number32_here bytes (two + 4 + 4 + 4) (two + 4 + 4 + 4 + 4) s.expire f.3 (BytesAt-left bytes (two + 4 + 4 + 4) (to_be_bytes w32 s.expire) (to_be_bytes w32 s.minimum) s4) refl in
-    let n5 = number32_here bytes (two + 4 + 4 + 4 + 4) next s.minimum f.4 s5 (omega (arith, at.numbers.after)) in
-    rw (name_here floor bytes place at.one s.mname f.5 at.mname, name_here floor bytes at.one two s.rname f.6 at.rname, n1, n2, n3, n4, n5) refl
+    let n1 = number32_here bytes two (two + 4) s.serial f.0.0 (BytesAt-left bytes two (to_be_bytes w32 s.serial) (to_be_bytes w32 s.refresh ++ to_be_bytes w32 s.retry ++ to_be_bytes w32 s.expire ++ to_be_bytes w32 s.minimum) s1) refl in
+    let n2 = number32_here bytes (two + 4) (two + 4 + 4) s.refresh f.0.1 (BytesAt-left bytes (two + 4) (to_be_bytes w32 s.refresh) (to_be_bytes w32 s.retry ++ to_be_bytes w32 s.expire ++ to_be_bytes w32 s.minimum) s2) refl in
+    let n3 = number32_here bytes (two + 4 + 4) (two + 4 + 4 + 4) s.retry f.0.2 (BytesAt-left bytes (two + 4 + 4) (to_be_bytes w32 s.retry) (to_be_bytes w32 s.expire ++ to_be_bytes w32 s.minimum) s3) refl in
+    let n4 = number32_here bytes (two + 4 + 4 + 4) (two + 4 + 4 + 4 + 4) s.expire f.0.3 (BytesAt-left bytes (two + 4 + 4 + 4) (to_be_bytes w32 s.expire) (to_be_bytes w32 s.minimum) s4) refl in
+    let n5 = number32_here bytes (two + 4 + 4 + 4 + 4) next s.minimum f.0.4 s5 (omega (arith, at.numbers.after)) in
+    rw (name_here floor bytes place at.one s.mname f.1.0 at.mname, name_here floor bytes at.one two s.rname f.1.1 at.rname, n1, n2, n3, n4, n5) refl
 
 -- ---- a signature
 
@@ -113,16 +113,16 @@ tsig_here floor bytes place next t f at =
     let low = t.time % 2 ^ 32 in
     let len = fields_len (to_be_bytes w16 high) (to_be_bytes w32 low) (to_be_bytes w16 t.fudge) (to_be_bytes w16 (length t.mac)) t.mac (to_be_bytes w16 t.oid) (to_be_bytes w16 t.error) (to_be_bytes w16 (length t.other)) t.other in
     let s = fields_of bytes m (to_be_bytes w16 high) (to_be_bytes w32 low) (to_be_bytes w16 t.fudge) (to_be_bytes w16 (length t.mac)) t.mac (to_be_bytes w16 t.oid) (to_be_bytes w16 t.error) (to_be_bytes w16 (length t.other)) t.other at.fields.stands in
-    let n1 = number16_here bytes m (m + 2) high (div_below t.time (2 ^ 32) (2 ^ 16) (omega arith) f.0) s.one refl in
+    let n1 = number16_here bytes m (m + 2) high (div_below t.time (2 ^ 32) (2 ^ 16) (omega arith) f.0.0) s.one refl in
     let n2 = number32_here bytes (m + 2) (m + 2 + 4) low (mod_below t.time (2 ^ 32) (omega arith)) s.two refl in
-    let n3 = number16_here bytes (m + 2 + 4) (m + 2 + 4 + 2) t.fudge f.1 s.three refl in
-    let n4 = counted_here bytes (m + 2 + 4 + 2) (m + 2 + 4 + 2 + 2 + length t.mac) t.mac f.2 s.four s.five refl in
+    let n3 = number16_here bytes (m + 2 + 4) (m + 2 + 4 + 2) t.fudge f.0.1 s.three refl in
+    let n4 = counted_here bytes (m + 2 + 4 + 2) (m + 2 + 4 + 2 + 2 + length t.mac) t.mac f.0.2 s.four s.five refl in
     let p = m + 2 + 4 + 2 + 2 + length t.mac in
-    let n5 = number16_here bytes p (p + 2) t.oid f.3 s.six refl in
-    let n6 = number16_here bytes (p + 2) (p + 2 + 2) t.error f.4 s.seven refl in
-    let n7 = counted_here bytes (p + 2 + 2) next t.other f.5 s.eight s.nine (omega (arith, at.fields.after)) in
+    let n5 = number16_here bytes p (p + 2) t.oid f.0.3 s.six refl in
+    let n6 = number16_here bytes (p + 2) (p + 2 + 2) t.error f.0.4 s.seven refl in
+    let n7 = counted_here bytes (p + 2 + 2) next t.other f.0.5 s.eight s.nine (omega (arith, at.fields.after)) in
     let time : high * 2 ^ 32 + low ≡ t.time = div-add-mod' t.time (2 ^ 32) in
-    rw (name_here floor bytes place m t.algorithm f.6 at.algorithm, n1, n2, n3, n4, n5, n6, n7)
+    rw (name_here floor bytes place m t.algorithm f.1 at.algorithm, n1, n2, n3, n4, n5, n6, n7)
     (ap (λ (n : ℕ). let d : TSIG = record t { time = n } in read_here (rdata.TSIG d) bytes next) time)
 
 -- ---- data with their length
@@ -160,19 +160,19 @@ aaaa_here floor bytes place next address f at =
 pub data_here : (floor : ℕ) (bytes : List ℕ) (place len next : ℕ) (d : RData) → place ≤ length bytes → IsFormed d → DataAt floor bytes place d next → next ≡ place + len → record_data (type_of d) len (here bytes place) ≡ read_here d bytes next
 unfolding record_data form
 data_here floor bytes place len next (rdata.A a) in_range f at after =
-    some_data 1 len bytes place next (rdata.A a) (rw (octets_here bytes place next 4 a.octets at.stands (sym f.four) (omega (arith, at.after, f.four))) refl) after (omega (arith, at.stands.fits, at.after)) (omega (arith, at.after, f.four))
+    some_data 1 len bytes place next (rdata.A a) (rw (octets_here bytes place next 4 a.octets at.stands (sym f.0.four) (omega (arith, at.after, f.0.four))) refl) after (omega (arith, at.stands.fits, at.after)) (omega (arith, at.after, f.0.four))
 data_here floor bytes place len next (rdata.AAAA a) in_range f at after =
     let size = octets_len a.segments in
-    some_data 28 len bytes place next (rdata.AAAA a) (aaaa_here floor bytes place next a f at) after (omega (arith, at.stands.fits, at.after)) (omega (arith, at.after, f.eight))
+    some_data 28 len bytes place next (rdata.AAAA a) (aaaa_here floor bytes place next a f.0 at) after (omega (arith, at.stands.fits, at.after)) (omega (arith, at.after, f.0.eight))
 data_here floor bytes place len next (rdata.NS n) in_range f at after =
     let m = LabelsAt-longer at.labels in
-    some_data 2 len bytes place next (rdata.NS n) (rw (name_here floor bytes place next n f at) refl) after m.1 m.0
+    some_data 2 len bytes place next (rdata.NS n) (rw (name_here floor bytes place next n f.1 at) refl) after m.1 m.0
 data_here floor bytes place len next (rdata.CNAME n) in_range f at after =
     let m = LabelsAt-longer at.labels in
-    some_data 5 len bytes place next (rdata.CNAME n) (rw (name_here floor bytes place next n f at) refl) after m.1 m.0
+    some_data 5 len bytes place next (rdata.CNAME n) (rw (name_here floor bytes place next n f.1 at) refl) after m.1 m.0
 data_here floor bytes place len next (rdata.PTR n) in_range f at after =
     let m = LabelsAt-longer at.labels in
-    some_data 12 len bytes place next (rdata.PTR n) (rw (name_here floor bytes place next n f at) refl) after m.1 m.0
+    some_data 12 len bytes place next (rdata.PTR n) (rw (name_here floor bytes place next n f.1 at) refl) after m.1 m.0
 data_here floor bytes place len next (rdata.MX m) in_range f at after =
     let l = LabelsAt-longer at.exchange.labels in
     some_data 15 len bytes place next (rdata.MX m) (mx_here floor bytes place next m f at) after l.1 (omega (arith, at.preference.after, l.0))
@@ -180,28 +180,28 @@ data_here floor bytes place len next (rdata.SOA s) in_range f at after =
     let l = LabelsAt-longer at.mname.labels in
     let k = LabelsAt-longer at.rname.labels in
     some_data 6 len bytes place next (rdata.SOA s) (soa_here floor bytes place next s f at) after (omega (arith, at.numbers.stands.fits, at.numbers.after)) (omega (arith, at.numbers.after, l.0, k.0))
-data_here floor bytes place len next (rdata.TXT []) in_range f at after = absurd (f.0 refl)
+data_here floor bytes place len next (rdata.TXT []) in_range f at after = absurd (f.1 refl)
 data_here floor bytes place len next (rdata.TXT (t ∷ ts)) in_range f at after =
     let size = length-append (character_string t) (flat_map character_string ts) in
     some_data 16 len bytes place next (rdata.TXT (t ∷ ts)) (rw (← after, strings_here bytes place next (t ∷ ts) at.stands at.after) refl) after (omega (arith, at.stands.fits, at.after)) (omega (arith, at.after))
 data_here floor bytes place len next (rdata.OPT o) in_range f at after =
     let text = flat_map option_octets o in
     let u = opt_is_used (eqb len 0) in
-    by_form 41 len bytes place next (rdata.OPT o) (rw (octets_here bytes place next len text at.stands (omega (arith, at.after)) after) (ap (λ (s : List EdnsOption). read_here (rdata.OPT s) bytes next) (options_again o f))) after (omega (arith, at.stands.fits, at.after)) u.0 u.1
+    by_form 41 len bytes place next (rdata.OPT o) (rw (octets_here bytes place next len text at.stands (omega (arith, at.after)) after) (ap (λ (s : List EdnsOption). read_here (rdata.OPT s) bytes next) (options_again o f.0))) after (omega (arith, at.stands.fits, at.after)) u.0 u.1
 data_here floor bytes place len next (rdata.TSIG t) in_range f at after =
     let l = LabelsAt-longer at.algorithm.labels in
     some_data 250 len bytes place next (rdata.TSIG t) (tsig_here floor bytes place next t f at) after (omega (arith, at.fields.stands.fits, at.fields.after)) (omega (arith, at.fields.after, l.0))
-data_here floor bytes place len next (rdata.NULL []) in_range f at after = absurd (f refl)
+data_here floor bytes place len next (rdata.NULL []) in_range f at after = absurd (f.1 refl)
 data_here floor bytes place len next (rdata.NULL (o ∷ os)) in_range f at after =
     some_data 10 len bytes place next (rdata.NULL (o ∷ os)) (rw (octets_here bytes place next len (o ∷ os) at.stands (omega (arith, at.after)) after) refl) after (omega (arith, at.stands.fits, at.after)) (omega (arith, at.after))
 data_here floor bytes place len next (rdata.Update0 code) in_range f at after =
     let none : len ≡ 0 = omega arith in
     let long : ltb (length (drop place bytes)) 0 ≡ false = le-ltb _ _ (omega arith) in
-    rw (none, long, at, ne_eqb code 41 f.1, ne_eqb code 250 f.2) refl
-data_here floor bytes place len next (rdata.Unknown code []) in_range f at after = absurd (f.1 refl)
+    rw (none, long, at, ne_eqb code 41 f.1.0, ne_eqb code 250 f.1.1) refl
+data_here floor bytes place len next (rdata.Unknown code []) in_range f at after = absurd (f.1.0 refl)
 data_here floor bytes place len next (rdata.Unknown code (o ∷ os)) in_range f at after =
     let e : form code len (here bytes place) ≡ read_here (rdata.Unknown code (o ∷ os)) bytes next =
-    rw (ne_eqb code 1 f.2, ne_eqb code 28 f.10, ne_eqb code 2 f.3, ne_eqb code 5 f.4, ne_eqb code 12 f.7, ne_eqb code 15 f.8, ne_eqb code 6 f.5, ne_eqb code 16 f.9, ne_eqb code 41 f.11, ne_eqb code 250 f.12, ne_eqb code 10 f.6, octets_here bytes place next len (o ∷ os) at.stands (omega (arith, at.after)) after) refl in
+    rw (ne_eqb code 1 f.1.1, ne_eqb code 28 f.1.9, ne_eqb code 2 f.1.2, ne_eqb code 5 f.1.3, ne_eqb code 12 f.1.6, ne_eqb code 15 f.1.7, ne_eqb code 6 f.1.4, ne_eqb code 16 f.1.8, ne_eqb code 41 f.1.10, ne_eqb code 250 f.1.11, ne_eqb code 10 f.1.5, octets_here bytes place next len (o ∷ os) at.stands (omega (arith, at.after)) after) refl in
     some_data code len bytes place next (rdata.Unknown code (o ∷ os)) e after (omega (arith, at.stands.fits, at.after)) (omega (arith, at.after))
 
 -- ---- records

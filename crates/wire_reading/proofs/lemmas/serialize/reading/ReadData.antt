@@ -71,7 +71,7 @@ module _ (bytes : List ℕ) (a : AreBytes bytes) where
       let at_m = name_in bytes a c m i.0 e0 in
       let at_r = name_in bytes a m.1 r at_m.1.0 f0 in
       let n = numbers_in r.1 v w x y z at_r.1 e1 e2 e3 e4 e5 in
-      ((record { one = m.1.place; two = r.1.place; mname = at_m.0; rname = at_r.0; numbers = n.0 }, (n.2, n.3, n.4, n.5, n.6, at_m.2, at_r.2)), refl, n.1)
+      ((record { one = m.1.place; two = r.1.place; mname = at_m.0; rname = at_r.0; numbers = n.0 }, ((n.2, n.3, n.4, n.5, n.6), (at_m.2, at_r.2))), refl, n.1)
 
   -- the start of a zone that was read stands there
   pub soa_in : (c : Cursor) (x : RData × Cursor) → In bytes c → soa c ≡ Ok x → Gave 6 c x
@@ -131,7 +131,7 @@ module _ (bytes : List ℕ) (a : AreBytes bytes) where
       let fields : OctetsAt 0 bytes n.1.place (to_be_bytes w16 (time / 2 ^ 32) ++ to_be_bytes w32 (time % 2 ^ 32) ++ to_be_bytes w16 f.0 ++ to_be_bytes w16 (length m.0) ++ m.0 ++ to_be_bytes w16 o.0 ++ to_be_bytes w16 e.0 ++ to_be_bytes w16 (length t.0) ++ t.0) t.1.place =
       subst (λ (k : ℕ). OctetsAt 0 bytes n.1.place (to_be_bytes w16 (time / 2 ^ 32) ++ to_be_bytes w32 k ++ to_be_bytes w16 f.0 ++ to_be_bytes w16 (length m.0) ++ m.0 ++ to_be_bytes w16 o.0 ++ to_be_bytes w16 e.0 ++ to_be_bytes w16 (length t.0) ++ t.0) t.1.place) low
       (subst (λ (k : ℕ). OctetsAt 0 bytes n.1.place (to_be_bytes w16 k ++ to_be_bytes w32 l.0 ++ to_be_bytes w16 f.0 ++ to_be_bytes w16 (length m.0) ++ m.0 ++ to_be_bytes w16 o.0 ++ to_be_bytes w16 e.0 ++ to_be_bytes w16 (length t.0) ++ t.0) t.1.place) high s.0) in
-      ((record { middle = n.1.place; algorithm = at_n.0; fields = fields }, (omega (arith, s.2, s.3), s.4, s.5, s.6, s.7, s.8, at_n.2)), refl, s.1)
+      ((record { middle = n.1.place; algorithm = at_n.0; fields = fields }, ((omega (arith, s.2, s.3), s.4, s.5, s.6, s.7, s.8), at_n.2)), refl, s.1)
 
   -- a signature that was read stands there
   pub tsig_in : (c : Cursor) (x : RData × Cursor) → In bytes c → tsig c ≡ Ok x → Gave 250 c x
@@ -183,7 +183,7 @@ module _ (bytes : List ℕ) (a : AreBytes bytes) where
       let at = strings_in bytes a (c.place + len - c.place) (c.place + len) c t i e0 in
       let y : RData × Cursor = (rdata.TXT t.0, t.1) in
       let place : t.1.place ≡ c.place + len = ap (λ (z : RData × Cursor). z.1.place) (ok_is y x q0) ∙ stop in
-      gave 16 c y x q0 ((at.0, ((λ none. omega (arith, at.0.after, ap (λ (l : List (List ℕ)). length (flat_map character_string l)) none)), at.2)), refl, at.1))
+      gave 16 c y x q0 ((at.0, (at.2, λ none. omega (arith, at.0.after, ap (λ (l : List (List ℕ)). length (flat_map character_string l)) none))), refl, at.1))
 
   -- ---- the types
 
@@ -243,15 +243,15 @@ module _ (bytes : List ℕ) (a : AreBytes bytes) where
   pub form_in : (kind len : ℕ) (c : Cursor) (x : RData × Cursor) → In bytes c → kind < 2 ^ 16 → ((kind ≢ 41) → 0 < len) → form kind len c ≡ Ok x → x.1.place ≡ c.place + len → Gave kind c x
   unfolding form
   form_in kind len c x i small some e stop =
-      stage 1 kind (octets 4 c >>= λ o. Ok (rdata.A (ipv4_of o.0), o.1)) (aaaa_or kind len c) c x e (λ k h. plain_in 1 4 (λ o. rdata.A (ipv4_of o)) c x i h (λ o next s b t. ((t, record { four = s }), refl))) (λ n1 e1.
-      stage 28 kind (octets 16 c >>= λ o. Ok (rdata.AAAA (ipv6_of o.0), o.1)) (ns_or kind len c) c x e1 (λ k h. plain_in 28 16 (λ o. rdata.AAAA (ipv6_of o)) c x i h (λ o next s b t. (aaaa_is o c.place next s b t, refl))) (λ n28 e28.
-      stage 2 kind (name c >>= λ n. Ok (rdata.NS n.0, n.1)) (cname_or kind len c) c x e28 (λ k h. named_in 2 rdata.NS c x i h (λ n next t q. ((t, q), refl))) (λ n2 e2.
-      stage 5 kind (name c >>= λ n. Ok (rdata.CNAME n.0, n.1)) (ptr_or kind len c) c x e2 (λ k h. named_in 5 rdata.CNAME c x i h (λ n next t q. ((t, q), refl))) (λ n5 e5.
-      stage 12 kind (name c >>= λ n. Ok (rdata.PTR n.0, n.1)) (mx_or kind len c) c x e5 (λ k h. named_in 12 rdata.PTR c x i h (λ n next t q. ((t, q), refl))) (λ n12 e12.
+      stage 1 kind (octets 4 c >>= λ o. Ok (rdata.A (ipv4_of o.0), o.1)) (aaaa_or kind len c) c x e (λ k h. plain_in 1 4 (λ o. rdata.A (ipv4_of o)) c x i h (λ o next s b t. ((t, (record { four = s }, tt)), refl))) (λ n1 e1.
+      stage 28 kind (octets 16 c >>= λ o. Ok (rdata.AAAA (ipv6_of o.0), o.1)) (ns_or kind len c) c x e1 (λ k h. plain_in 28 16 (λ o. rdata.AAAA (ipv6_of o)) c x i h (λ o next s b t. let f = aaaa_is o c.place next s b t in ((f.0, (f.1, tt)), refl))) (λ n28 e28.
+      stage 2 kind (name c >>= λ n. Ok (rdata.NS n.0, n.1)) (cname_or kind len c) c x e28 (λ k h. named_in 2 rdata.NS c x i h (λ n next t q. ((t, (tt, q)), refl))) (λ n2 e2.
+      stage 5 kind (name c >>= λ n. Ok (rdata.CNAME n.0, n.1)) (ptr_or kind len c) c x e2 (λ k h. named_in 5 rdata.CNAME c x i h (λ n next t q. ((t, (tt, q)), refl))) (λ n5 e5.
+      stage 12 kind (name c >>= λ n. Ok (rdata.PTR n.0, n.1)) (mx_or kind len c) c x e5 (λ k h. named_in 12 rdata.PTR c x i h (λ n next t q. ((t, (tt, q)), refl))) (λ n12 e12.
       stage 15 kind (mx c) (soa_or kind len c) c x e12 (λ k h. mx_in c x i h) (λ n15 e15.
       stage 6 kind (soa c) (txt_or kind len c) c x e15 (λ k h. soa_in c x i h) (λ n6 e6.
       stage 16 kind (strings_until (c.place + len) c >>= λ t. Ok (rdata.TXT t.0, t.1)) (opt_or kind len c) c x e6 (λ k h. texts_in len c x i (some (λ q. omega arith)) h stop) (λ n16 e16.
       stage 41 kind (octets len c >>= λ o. Ok (rdata.OPT (options_of o.0), o.1)) (tsig_or kind len c) c x e16 (λ k h. plain_in 41 len (λ o. rdata.OPT (options_of o)) c x i h (λ o next s b t. ((o, t, options_held o b), refl))) (λ n41 e41.
       stage 250 kind (tsig c) (null_or kind len c) c x e41 (λ k h. tsig_in c x i h) (λ n250 e250.
-      stage 10 kind (octets len c >>= λ o. Ok (rdata.NULL o.0, o.1)) (octets len c >>= λ o. Ok (rdata.Unknown kind o.0, o.1)) c x e250 (λ k h. plain_in 10 len rdata.NULL c x i h (λ o next s b t. ((t, not_empty o len s (some n41)), refl))) (λ n10 e10.
-      plain_in kind len (λ o. rdata.Unknown kind o) c x i e10 (λ o next s b t. ((t, (small, not_empty o len s (some n41), n1, n2, n5, n6, n10, n12, n15, n16, n28, n41, n250)), refl)))))))))))))
+      stage 10 kind (octets len c >>= λ o. Ok (rdata.NULL o.0, o.1)) (octets len c >>= λ o. Ok (rdata.Unknown kind o.0, o.1)) c x e250 (λ k h. plain_in 10 len rdata.NULL c x i h (λ o next s b t. ((t, (tt, not_empty o len s (some n41))), refl))) (λ n10 e10.
+      plain_in kind len (λ o. rdata.Unknown kind o) c x i e10 (λ o next s b t. ((t, (small, (not_empty o len s (some n41), n1, n2, n5, n6, n10, n12, n15, n16, n28, n41, n250))), refl)))))))))))))

@@ -73,7 +73,7 @@ module _ (bytes : List ℕ) (a : AreBytes bytes) where
       let y : RData × Cursor = (rdata.Update0 kind, c) in
       let zero_len : len ≡ 0 = eq_of len 0 t.0 in
       let place : x.1.place ≡ c.place = ap (λ (z : RData × Cursor). z.1.place) (sym (ok_is y x e)) in
-      (gave bytes a kind c y x e ((refl, (small, ne_of kind 41 (not_true _ t.1), ne_of kind 250 (not_true _ t.2))), refl, i), omega arith)
+      (gave bytes a kind c y x e ((refl, (small, (ne_of kind 41 (not_true _ t.1), ne_of kind 250 (not_true _ t.2)))), refl, i), omega arith)
 
   -- data of a type and of so many bytes
   pub data_in : (kind len : ℕ) (c : Cursor) (x : RData × Cursor) → In bytes c → kind < 2 ^ 16 → record_data kind len c ≡ Ok x → Gave bytes a kind c x × (x.1.place ≡ c.place + len)

@@ -3,8 +3,7 @@ use Rattle.std.proofs.Common.{◌≡◌, ◌≢◌, ℕ, ◌+◌, ◌<◌, ◌�
 use Rattle.std.specs.Prelude.{is_some, ◌||◌}
 use Rattle.std.proofs.lemmas.List.{take_all, take-append-le, drop-append-le, drop_at, map-append}
 use Rattle.std.specs.Borrow.{Bor}
-use Rattle.wire_writing.specs.representation.Endings.{RecordEnds, seen_ending, count_of_one, fault_of, is_cut_by, front_of_ending, ListAdds, ListFollows}
-use Rattle.wire_writing.specs.serialize.writing.Writing as writing
+use Rattle.wire_writing.specs.representation.Endings.{RecordEnds, count_of_one, fault_of, is_cut_by, front_of_ending, ListAdds, ListFollows}
 use Rattle.wire_writing.specs.serialize.writing.Writing.{Puts, PutsAll, Ends, ListWritten, ListFront, ListsWritten, ending_of, nothing_put}
 use Rattle.wire_writing.specs.serialize.writing.Writing.ListsWritten.{none_left, next_list, stuck_list}
 use Rattle.wire_names.specs.declared.error.ProtoError.{ProtoError}
@@ -26,11 +25,11 @@ puts_more : (limit : ℕ) (rs : List (Record RData)) (r : Record RData) (old mid
 puts_more limit [] r old mid new e p = (new, subst (λ m. Puts limit m r new) e p, refl)
 puts_more limit (q ∷ rs) r old mid new (between, one, rest) p = (between, one, puts_more limit rs r between mid new rest p)
 
-pub list_none : (limit : ℕ) (old : List ℕ) → ListWritten limit old [] old 0 writing.ListEnding.whole
+pub list_none : (limit : ℕ) (old : List ℕ) → ListWritten limit old [] old 0 Whole
 list_none limit old = record { counted = omega arith; puts = refl; ends = refl }
 
 module _ (limit : ℕ) (old : List ℕ) (rs : List (Record RData)) (r : Record RData) (mid : List ℕ) (count : ℕ) where
-  pub list_put : (new : List ℕ) → ListWritten limit old rs mid count writing.ListEnding.whole → Puts limit mid r new → ListWritten limit old (rs ++ r ∷ []) new (count + 1) writing.ListEnding.whole
+  pub list_put : (new : List ℕ) → ListWritten limit old rs mid count Whole → Puts limit mid r new → ListWritten limit old (rs ++ r ∷ []) new (count + 1) Whole
   list_put new w p =
       let more = length-append rs (r ∷ []) in
       let all : take (count + 1) (rs ++ r ∷ []) ≡ rs ++ r ∷ [] = take_all (count + 1) (rs ++ r ∷ []) (omega (arith, more, w.ends)) in
@@ -42,7 +41,7 @@ module _ (limit : ℕ) (old : List ℕ) (rs : List (Record RData)) (r : Record R
       }
 
   -- the same front, with another end
-  ended : (was now : writing.ListEnding) → ListWritten limit old rs mid count was → Ends limit (rs ++ r ∷ []) count mid now → ListWritten limit old (rs ++ r ∷ []) mid count now
+  ended : (was now : Ending) → ListWritten limit old rs mid count was → Ends limit (rs ++ r ∷ []) count mid now → ListWritten limit old (rs ++ r ∷ []) mid count now
   ended was now w e = record {
     counted = omega (arith, w.counted, length-append rs (r ∷ []));
     puts = subst (λ xs. PutsAll limit old xs mid) (sym (take-append-le count rs (r ∷ []) w.counted)) w.puts;
@@ -53,25 +52,25 @@ module _ (limit : ℕ) (old : List ℕ) (rs : List (Record RData)) (r : Record R
   last_left e = drop_at rs (r ∷ []) count (sym e)
 
   -- the next record is left out
-  pub list_ends : (new : List ℕ) (ending : Ending) → ending ≢ Whole → ListWritten limit old rs mid count writing.ListEnding.whole → RecordEnds limit mid r new ending → ListWritten limit old (rs ++ r ∷ []) new count (seen_ending ending)
+  pub list_ends : (new : List ℕ) (ending : Ending) → ending ≢ Whole → ListWritten limit old rs mid count Whole → RecordEnds limit mid r new ending → ListWritten limit old (rs ++ r ∷ []) new count ending
   list_ends new Whole ne w h = absurd (ne refl)
   list_ends new Cut ne w h =
-      subst (λ b. ListWritten limit old (rs ++ r ∷ []) b count writing.ListEnding.cut) (sym h.0)
-      (ended writing.ListEnding.whole writing.ListEnding.cut w (record { next = r; rest = []; is = last_left w.ends; formed = h.1; large = h.2 }))
+      subst (λ b. ListWritten limit old (rs ++ r ∷ []) b count Cut) (sym h.0)
+      (ended Whole Cut w (record { next = r; rest = []; is = last_left w.ends; formed = h.1; large = h.2 }))
   list_ends new (Stuck e) ne w h =
-      subst (λ b. ListWritten limit old (rs ++ r ∷ []) b count (writing.ListEnding.stuck e)) (sym h.0)
-      (ended writing.ListEnding.whole (writing.ListEnding.stuck e) w (record { next = r; rest = []; is = last_left w.ends; formless = h.1 }))
+      subst (λ b. ListWritten limit old (rs ++ r ∷ []) b count (Stuck e)) (sym h.0)
+      (ended Whole (Stuck e) w (record { next = r; rest = []; is = last_left w.ends; formless = h.1 }))
 
   still_left : (next : Record RData) (rest : List (Record RData)) → count ≤ length rs → drop count rs ≡ next ∷ rest → drop count (rs ++ r ∷ []) ≡ next ∷ (rest ++ r ∷ [])
   still_left next rest h e = drop-append-le count rs (r ∷ []) h ∙ ap (λ xs. xs ++ r ∷ []) e
 
   -- behind a record that was left out nothing is written
-  pub list_skips : (ending : Ending) → ending ≢ Whole → ListWritten limit old rs mid count (seen_ending ending) → ListWritten limit old (rs ++ r ∷ []) mid count (seen_ending ending)
+  pub list_skips : (ending : Ending) → ending ≢ Whole → ListWritten limit old rs mid count ending → ListWritten limit old (rs ++ r ∷ []) mid count ending
   list_skips Whole ne w = absurd (ne refl)
   list_skips Cut ne w = let k = w.ends in
-      ended writing.ListEnding.cut writing.ListEnding.cut w (record { next = k.next; rest = k.rest ++ r ∷ []; is = still_left k.next k.rest w.counted k.is; formed = k.formed; large = k.large })
+      ended Cut Cut w (record { next = k.next; rest = k.rest ++ r ∷ []; is = still_left k.next k.rest w.counted k.is; formed = k.formed; large = k.large })
   list_skips (Stuck e) ne w = let k = w.ends in
-      ended (writing.ListEnding.stuck e) (writing.ListEnding.stuck e) w (record { next = k.next; rest = k.rest ++ r ∷ []; is = still_left k.next k.rest w.counted k.is; formless = k.formless })
+      ended (Stuck e) (Stuck e) w (record { next = k.next; rest = k.rest ++ r ∷ []; is = still_left k.next k.rest w.counted k.is; formless = k.formless })
 
 -- the records that references point to
 abbrev pub nows : List (Bor (Record RData)) → List (Record RData)
@@ -95,7 +94,7 @@ lists_more records new front (stuck_list one uncut behind) e w = absurd cc
 
 -- a list that gets stuck behind others
 lists_stuck : {limit : ℕ} {lists : List (List (Record RData))} {start mid : List ℕ} {fronts : List ListFront} {fault : Option ProtoError} (records : List (Record RData)) (new : List ℕ) (count : ℕ) (e : ProtoError) → ListsWritten limit lists start mid fronts fault → fault ≡ None
-    → ListWritten limit mid records new count (writing.ListEnding.stuck e) → ListsWritten limit (lists ++ records ∷ []) start new (fronts ++ record { count = count; is_cut = false } ∷ []) (Some e)
+    → ListWritten limit mid records new count (Stuck e) → ListsWritten limit (lists ++ records ∷ []) start new (fronts ++ record { count = count; is_cut = false } ∷ []) (Some e)
 lists_stuck records new count e none_left h w = stuck_list w refl refl
 lists_stuck records new count e (next_list one more) h w = next_list one (lists_stuck records new count e more h w)
 lists_stuck records new count e (stuck_list one uncut behind) h w = absurd cc
@@ -105,11 +104,11 @@ lists_done : {limit : ℕ} {lists : List (List (Record RData))} {start mid : Lis
 lists_done records e none_left h = absurd cc
 lists_done records e (next_list one more) h = next_list one (lists_done records e more h)
 lists_done {limit} {start = start} {mid = mid} records e (stuck_list {records = before} {lists = others} {front = front} {fronts = fronts} {e = d} one uncut behind) h =
-    stuck_list {records = before} {lists = others ++ records ∷ []} {front = front} (subst (λ x. ListWritten limit start before mid front.count (writing.ListEnding.stuck x)) (some_is d e h) one) uncut
+    stuck_list {records = before} {lists = others ++ records ∷ []} {front = front} (subst (λ x. ListWritten limit start before mid front.count (Stuck x)) (some_is d e h) one) uncut
     (ap (λ fs. fs ++ nothing_put ∷ []) behind ∙ sym (map-append (λ list. nothing_put) others (records ∷ [])))
 
 -- what a run says, behind lists that were not stuck
-pub follows_run : (limit : ℕ) (old new : List ℕ) (records : List (Record RData)) (count : ℕ) (ending : Ending) → ListWritten limit old records new count (seen_ending ending) → ListFollows limit None old records new (front_of_ending count ending)
+pub follows_run : (limit : ℕ) (old new : List ℕ) (records : List (Record RData)) (count : ℕ) (ending : Ending) → ListWritten limit old records new count ending → ListFollows limit None old records new (front_of_ending count ending)
 follows_run limit old new records count Whole w lists start fronts h = lists_more records new (record { count = count; is_cut = false }) h refl w
 follows_run limit old new records count Cut w lists start fronts h = lists_more records new (record { count = count; is_cut = true }) h refl w
 follows_run limit old new records count (Stuck e) w lists start fronts h = lists_stuck records new count e h refl w
@@ -123,7 +122,7 @@ pub follows_none : (limit : ℕ) (old : List ℕ) → ListFollows limit None old
 follows_none limit old = follows_run limit old old [] 0 Whole (list_none limit old)
 
 -- the list of one record
-pub list_one : (limit : ℕ) (old new : List ℕ) (r : Record RData) (ending : Ending) → RecordEnds limit old r new ending → ListWritten limit old (r ∷ []) new (count_of_one ending) (seen_ending ending)
+pub list_one : (limit : ℕ) (old new : List ℕ) (r : Record RData) (ending : Ending) → RecordEnds limit old r new ending → ListWritten limit old (r ∷ []) new (count_of_one ending) ending
 list_one limit old new r Whole h = list_put limit old [] r old 0 new (list_none limit old) h
 list_one limit old new r Cut h = list_ends limit old [] r old 0 new Cut (λ e. absurd cc) (list_none limit old) h
 list_one limit old new r (Stuck e) h = list_ends limit old [] r old 0 new (Stuck e) (λ e. absurd cc) (list_none limit old) h
@@ -152,7 +151,7 @@ adds_stuck limit stops old records e is = (rw is (follows_stuck limit old record
 
 -- what is remembered of a run
 pub adds_run : (limit : ℕ) (stops stops' : Stops) (old new : List ℕ) (records : List (Record RData)) (count : ℕ) (ending : Ending) → stops.fault ≡ None → stops'.fault ≡ fault_of ending → stops'.is_cut ≡ (stops.is_cut || is_cut_by ending)
-    → ListWritten limit old records new count (seen_ending ending) → ListAdds limit (record { bytes = old; stops = stops }) records (record { bytes = new; stops = stops' }) count (is_cut_by ending)
+    → ListWritten limit old records new count ending → ListAdds limit (record { bytes = old; stops = stops }) records (record { bytes = new; stops = stops' }) count (is_cut_by ending)
 adds_run limit stops stops' old new records count ending none fault cut w = (rw (none, fault) (follows_run limit old new records count ending w), cut, λ unstuck. none)
 
 -- what is remembered of the list of one record

@@ -7,8 +7,8 @@ use Rattle.std.specs.List.{AllByRecursion}
 use Rattle.wire_messages.specs.serialize.writing.RecordSize.{full_size}
 use Rattle.wire_messages.specs.serialize.writing.Reply.{Reply}
 use Rattle.wire_writing.specs.serialize.writing.WholeReply.{HasForm, total_size, FitsWhole, IsWhole}
-use Rattle.wire_writing.specs.serialize.writing.Writing as writing
 use Rattle.wire_writing.specs.serialize.writing.Writing.{Puts, PutsAll, ListWritten, ListFront, ListsWritten, Fronts, fronts_list, is_any_cut, ending_of, Written, GetsStuck, header_and_questions}
+use Rattle.wire_writing.specs.declared.serialize.writing.record_encoder.Ending.TheVariants.{Stuck}
 use Rattle.wire_writing.specs.serialize.writing.Writing.ListsWritten.{none_left, next_list, stuck_list}
 use Rattle.wire_names.specs.declared.error.ProtoError.{ProtoError}
 use Rattle.wire_messages.specs.declared.rr.rdata.RData.{RData}
@@ -45,7 +45,7 @@ whole_list limit old records new front true e formed fits w =
     let k = w.ends in
     absurd (omega (arith, k.large, fits, puts_small limit (take front.count records) old new w.puts, front_and_next records front.count k.next k.rest k.is))
 
-pub formless_none : {limit : ℕ} {old : List ℕ} {records : List (Record RData)} {new : List ℕ} {count : ℕ} {e : ProtoError} → AllByRecursion HasForm records → ListWritten limit old records new count (writing.ListEnding.stuck e) → ⊥
+pub formless_none : {limit : ℕ} {old : List ℕ} {records : List (Record RData)} {new : List ℕ} {count : ℕ} {e : ProtoError} → AllByRecursion HasForm records → ListWritten limit old records new count (Stuck e) → ⊥
 formless_none {records = records} {count = count} {e = e} formed w =
     let k = w.ends in
     let none : None ≡ Some e = sym (next_formed records count k.next k.rest formed k.is) ∙ k.formless in

@@ -1,5 +1,4 @@
 use Rattle.std.proofs.Common.{◌+◌, ◌≤◌, length, take}
-use Rattle.wire_writing.specs.representation.Endings.{seen_ending}
 use Rattle.wire_writing.specs.representation.Noted.{AreNotes}
 use Rattle.wire_writing.specs.representation.Endings.{NotedRun}
 use Rattle.wire_writing.specs.serialize.writing.Writing.{ListWritten}
@@ -13,7 +12,7 @@ invariant-loop-record g l = record {
   header : 12 ≤ length l.bytes.items;
   longer : length l.fn.bytes.items + l.count ≤ length l.bytes.items;
   within : length l.bytes.items ≤ l.limit;
-  written : ListWritten l.limit l.fn.bytes.items (nows l.yielded) l.bytes.items l.count (seen_ending l.ending);
+  written : ListWritten l.limit l.fn.bytes.items (nows l.yielded) l.bytes.items l.count l.ending;
   run : NotedRun l.limit l.fn.bytes.items l.fn.table (take l.count (nows l.yielded)) l.bytes.items l.table;
   noted : AreNotes l.bytes.items (length l.bytes.items) l.table;
 }
