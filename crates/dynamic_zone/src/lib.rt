@@ -15,7 +15,7 @@ use hickory_base::errors::{LookupError, UpdateFault};
 use hickory_base::server::{Request, RequestInfo};
 use hickory_base::zone_store::{
     AuthLookup, AxfrPolicy, LookupControlFlow, LookupOptions, Nsec3QueryInfo, NxProofKind,
-    ZoneHandler, ZoneTransfer, ZoneType,
+    WholeReply, ZoneHandler, ZoneTransfer, ZoneType,
 };
 use hickory_store::updates::{UpdatableZoneHandler, Verifier};
 use hickory_wire::{LowerName, RecordType, TSigResponseContext};
@@ -148,6 +148,18 @@ impl<V: Verifier> ZoneHandler for DynamicZone<V> {
     ) {
         let zone = self.updatable.in_memory();
         (self.overview.search(alloc, zone, request), None)
+    }
+
+    #[inline(always)]
+    fn search_whole<'z>(
+        &'z self,
+        alloc: Global,
+        request: &Request,
+        _options: LookupOptions,
+        reply: &mut WholeReply<'z>,
+    ) -> bool {
+        let zone = self.updatable.in_memory();
+        self.overview.search_whole(alloc, zone, request, reply)
     }
 
     fn consult<'z>(

@@ -1,6 +1,7 @@
 //! What is known of a zone as a whole, by which standard queries are answered in it.
 
 ghost use Rattle.std.specs.Prelude.{◌≡◌, ◌⊎◌, ◌↔◌, All, Err, IsTrue};
+ghost use Rattle.hickory_base.specs.zone_store.Lookups.{whole_answer};
 ghost use Rattle.hickory_base.specs.zone_store.ZoneSets.{AreSetsInOrder, IsZone};
 ghost use Rattle.hickory_base.specs.declared.errors.LookupError.TheVariants.{Memory};
 ghost use Rattle.hickory_store.specs.updates.Permission.{transfer_permission};
@@ -15,12 +16,13 @@ use hickory_base::errors::LookupError;
 use hickory_base::server::Request;
 use hickory_base::update_request::UpdateRequest;
 use hickory_base::zone_store::{
-    AuthLookup, InMemoryZoneHandler, LookupControlFlow, LookupOptions, ZoneHandler, ZoneTransfer,
+    AuthLookup, InMemoryZoneHandler, LookupControlFlow, LookupOptions, WholeReply, ZoneHandler,
+    ZoneTransfer,
 };
 use hickory_store::updates::laws::identities;
 use hickory_store::updates::{UpdatableZoneHandler, Verifier};
 use hickory_wire::{LowerName, LowerQuery, Record, RecordType, ResponseCode, TSigResponseContext};
-use hickory_zone::handled::{is_by_soa, names_zone, records, whole};
+use hickory_zone::handled::{is_by_soa, names_zone, put_whole, records, whole};
 use hickory_zone::{Features, are_owners, features_of, with_records};
 use std::alloc::Global;
 
@@ -135,6 +137,29 @@ impl Overview {
             Ok(info) => LookupControlFlow::Continue(self.answer(alloc, zone, info.query)),
             Err(e) => LookupControlFlow::Break(Err(e)),
         }
+    }
+
+    /// Puts the whole reply to the one question of a request in the place of another reply. Returns whether it did: not
+    /// where there is not just one question, where an owner name lies outside the zone, or where memory was refused;
+    /// then nothing is promised of the reply.
+    #[inline(always)]
+    pub fn search_whole<'z>(
+        self,
+        alloc: Global,
+        zone: &'z InMemoryZoneHandler,
+        request: &Request,
+        reply: &mut WholeReply<'z>,
+    ) -> bool
+        requires { IsOverview zone.now self }
+        ensures { IsTrue result → Searched zone.now request.now (whole_answer reply.new) }
+    {
+        if !self.is_owned {
+            return false;
+        }
+        let Ok(info) = request.request_info() else {
+            return false;
+        };
+        put_whole(alloc, zone, info.query, self.has, None, reply)
     }
 
     /// Looks up the records by which the catalog completes a reply. ServFail where an owner name lies outside the zone.

@@ -1,12 +1,12 @@
 //! How the zone's replies are given to the catalog.
 
-ghost use Rattle.std.specs.Prelude.{◌≡◌, ◌⊎◌, Err, IfSome, None};
+ghost use Rattle.std.specs.Prelude.{◌≡◌, ◌⊎◌, Err, IfSome, IsTrue, None};
 ghost use Rattle.std.specs.Option.{option_copied};
 ghost use Rattle.hickory_base.specs.declared.errors.LookupError.TheVariants.{Memory};
 ghost use Rattle.hickory_base.specs.declared.zone_store.lookup.LookupControlFlow.TheVariants.{Break};
 ghost use Rattle.hickory_zone.specs.representation.Features.{AreFeatures};
 ghost use Rattle.hickory_zone.specs.Handled.{IsGiven, IsLookedUp, StandsFor, TransferAnswered, held_serial, is_by_soa, is_no_older, is_soa, names_zone, records_of};
-ghost use Rattle.hickory_zone.specs.Replies.{denial_soa, as_zone};
+ghost use Rattle.hickory_zone.specs.Replies.{RepliesTo, as_zone, denial_soa};
 ghost use Rattle.hickory_zone.specs.Zones.{AreOwners, Zone};
 
 use crate::answers::{answer, is_class, refused, reply_to};
@@ -41,6 +41,25 @@ pub fn whole<'z>(
     let mut reply = refused();
     answer(alloc, zone, query, has, soa, None, &mut reply)?;
     Ok(AuthLookup::Whole(reply))
+}
+
+/// Puts the whole reply to a question, as `whole` has it, in the place of another reply. Returns whether there was memory
+/// for it; where there was not, nothing is promised of the reply.
+#[inline(always)]
+pub fn put_whole<'z>(
+    alloc: Global,
+    zone: &'z InMemoryZoneHandler,
+    query: &LowerQuery,
+    has: Features,
+    soa: Option<&'z [Record]>,
+    reply: &mut WholeReply<'z>,
+) -> bool
+    requires owners { AreOwners zone.now.origin zone.now.sets }
+    requires features { AreFeatures (as_zone zone.now) has }
+    requires soa { IfSome (option_copied soa) (λ rs. rs ≡ denial_soa (as_zone zone.now)) }
+    ensures { IsTrue result → RepliesTo (as_zone zone.now) query.now reply.new }
+{
+    answer(alloc, zone, query, has, soa, None, reply).is_ok()
 }
 
 /// What is answered where there is not just one question, for which no room is made elsewhere.

@@ -24,7 +24,7 @@ use hickory_base::server::{Request, RequestInfo};
 use hickory_base::update_request::UpdateRequest;
 use hickory_base::zone_store::{
     AuthLookup, AxfrPolicy, LookupControlFlow, LookupOptions, Nsec3QueryInfo, NxProofKind,
-    ZoneHandler, ZoneTransfer, ZoneType,
+    WholeReply, ZoneHandler, ZoneTransfer, ZoneType,
 };
 use hickory_store::updates::{UpdatableZoneHandler, Verifier};
 use hickory_wire::{LowerName, RecordType, TSigResponseContext};
@@ -207,6 +207,17 @@ impl<V: Verifier, D: Disk + Drop> ZoneHandler for IncrementalZone<V, D> {
         Option<TSigResponseContext>,
     ) {
         self.zone.search(alloc, request, options)
+    }
+
+    #[inline(always)]
+    fn search_whole<'z>(
+        &'z self,
+        alloc: Global,
+        request: &Request,
+        options: LookupOptions,
+        reply: &mut WholeReply<'z>,
+    ) -> bool {
+        self.zone.search_whole(alloc, request, options, reply)
     }
 
     fn consult<'z>(

@@ -18,7 +18,7 @@ use hickory_base::server::{Request, RequestInfo};
 use hickory_base::update_request::UpdateRequest;
 use hickory_base::zone_store::{
     AuthLookup, AxfrPolicy, LookupControlFlow, LookupOptions, Nsec3QueryInfo, NxProofKind,
-    ZoneHandler, ZoneTransfer, ZoneType,
+    WholeReply, ZoneHandler, ZoneTransfer, ZoneType,
 };
 use hickory_store::updates::{UpdatableZoneHandler, Verifier};
 use hickory_wire::{LowerName, LowerQuery, RecordType, ResponseCode, TSigResponseContext};
@@ -239,6 +239,23 @@ impl<V: Verifier, D: Disk + Drop> ZoneHandler for UpdatedZone<V, D> {
                 None,
             ),
             None => self.zone.search(alloc, request, options),
+        }
+    }
+
+    #[inline(always)]
+    fn search_whole<'z>(
+        &'z self,
+        alloc: Global,
+        request: &Request,
+        options: LookupOptions,
+        reply: &mut WholeReply<'z>,
+    ) -> bool {
+        let Ok(info) = request.request_info() else {
+            return false;
+        };
+        match self.asked_above(info.query) {
+            Some(_) => false,
+            None => self.zone.search_whole(alloc, request, options, reply),
         }
     }
 

@@ -7,8 +7,9 @@ use Rattle.wire_messages.specs.serialize.layout.NameLayout.{LabelsAt, NameAt}
 use Rattle.wire_messages.specs.serialize.layout.NameLayout.LabelsAt.{at_end, at_label, at_pointer}
 use Rattle.hickory_wire.specs.worked.Worked.{root, record_of, address, a_record, www_name}
 use Rattle.hickory_wire.specs.worked.WorkedReplies.{www_answer, www_answer_bytes, answer_by_pointer, repeated, all_of, fronts_with, www_reply, www_reply_in_full}
-use Rattle.wire_writing.specs.serialize.writing.Writing.{Puts, PutsAll, PutsRepeating, ListWritten, ListsWritten, whole, Written, header_and_questions}
+use Rattle.wire_writing.specs.serialize.writing.Writing.{Puts, PutsAll, PutsRepeating, ListWritten, ListsWritten, Written, header_and_questions}
 use Rattle.wire_writing.specs.serialize.writing.OwnerNames.{OwnerPlace, RepeatsOwner}
+use Rattle.wire_writing.specs.declared.serialize.writing.record_encoder.Ending.TheVariants.{Whole}
 use Rattle.wire_writing.specs.serialize.writing.Writing.ListsWritten.{none_left, next_list}
 use Rattle.wire_messages.specs.declared.rr.rdata.RData.{RData}
 use Rattle.wire_messages.specs.declared.rr.record.Record.{Record}
@@ -16,7 +17,7 @@ use Rattle.wire_messages.proofs.lemmas.serialize.layout.Stable.{NameAt-keeps, Ke
 use Rattle.hickory_wire.proofs.lemmas.worked.Literals.{stands, is_label}
 
 -- of a list with no records nothing is put
-pub no_records : (limit : ℕ) (old : List ℕ) → ListWritten limit old [] old 0 whole
+pub no_records : (limit : ℕ) (old : List ℕ) → ListWritten limit old [] old 0 Whole
 no_records limit old = record { counted = omega arith; puts = refl; ends = refl }
 
 -- three and four lists with no records

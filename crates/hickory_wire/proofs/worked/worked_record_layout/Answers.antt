@@ -17,7 +17,7 @@ returns-clause-a c = record {
   class = omega arith;
   ttl = omega arith;
   small = omega arith;
-  rdata = (octets_at 11 _ refl refl refl, record { four = refl });
+  rdata = (octets_at 11 _ refl refl refl, (record { four = refl }, tt));
   counted = refl;
   within = omega arith;
   proof = refl;
@@ -33,7 +33,7 @@ returns-clause-a_empty c = record {
   class = omega arith;
   ttl = omega arith;
   small = omega arith;
-  rdata = (refl, (omega arith, omega arith, omega arith));
+  rdata = (refl, (omega arith, (omega arith, omega arith)));
   counted = refl;
   within = omega arith;
   proof = refl;
@@ -49,7 +49,7 @@ returns-clause-ns c = record {
   class = omega arith;
   ttl = omega arith;
   small = omega arith;
-  rdata = (record { labels = label_at 17 (codes "a") refl refl refl refl (pointer_at 19 0 0 5 refl refl refl refl (label_at 0 (codes "com") refl refl refl refl (end_at 4 refl refl refl))); short = omega arith }, refl);
+  rdata = (record { labels = label_at 17 (codes "a") refl refl refl refl (pointer_at 19 0 0 5 refl refl refl refl (label_at 0 (codes "com") refl refl refl refl (end_at 4 refl refl refl))); short = omega arith }, (tt, refl));
   counted = refl;
   within = omega arith;
   proof = refl;
@@ -73,7 +73,7 @@ returns-clause-soa c = record {
       rname = record { labels = label_at 15 (codes "a") refl refl refl refl (end_at 17 refl refl refl); short = omega arith };
       numbers = octets_at 18 _ refl refl refl;
     },
-    (omega arith, omega arith, omega arith, omega arith, omega arith, refl, refl),
+    ((omega arith, omega arith, omega arith, omega arith, omega arith), (refl, refl)),
   );
   counted = refl;
   within = omega arith;
@@ -90,7 +90,7 @@ returns-clause-txt c = record {
   class = omega arith;
   ttl = omega arith;
   small = omega arith;
-  rdata = (octets_at 11 _ refl refl refl, ((λ e. absurd cc), (omega arith, (omega arith, tt))));
+  rdata = (octets_at 11 _ refl refl refl, ((omega arith, (omega arith, tt)), λ e. absurd cc));
   counted = refl;
   within = omega arith;
   proof = refl;
@@ -143,7 +143,7 @@ returns-clause-tsig c = record {
   class = omega arith;
   ttl = omega arith;
   small = omega arith;
-  rdata = (record { middle = 12; algorithm = root_at 11 refl refl refl; fields = octets_at 12 _ refl refl refl }, (omega arith, omega arith, omega arith, omega arith, omega arith, omega arith, refl));
+  rdata = (record { middle = 12; algorithm = root_at 11 refl refl refl; fields = octets_at 12 _ refl refl refl }, ((omega arith, omega arith, omega arith, omega arith, omega arith, omega arith), refl));
   counted = refl;
   within = omega arith;
   proof = refl;
@@ -159,7 +159,7 @@ returns-clause-tsig_bad_time c = record {
   class = omega arith;
   ttl = omega arith;
   small = omega arith;
-  rdata = (record { middle = 14; algorithm = record { labels = label_at 11 (codes "a") refl refl refl refl (end_at 13 refl refl refl); short = omega arith }; fields = octets_at 14 _ refl refl refl }, (omega arith, omega arith, omega arith, omega arith, omega arith, omega arith, refl));
+  rdata = (record { middle = 14; algorithm = record { labels = label_at 11 (codes "a") refl refl refl refl (end_at 13 refl refl refl); short = omega arith }; fields = octets_at 14 _ refl refl refl }, ((omega arith, omega arith, omega arith, omega arith, omega arith, omega arith), refl));
   counted = refl;
   within = omega arith;
   proof = refl;

@@ -26,7 +26,7 @@ use wire_names::rr::domain::name::Name;
 
 /// How the writing of a record, or of a list of records, ended.
 #[derive(Clone, Copy)]
-pub(crate) enum Ending {
+pub enum Ending {
     /// Nothing was left out.
     Whole,
     /// The next record was left out, since in full it passes the limit.
