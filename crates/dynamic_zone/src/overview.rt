@@ -140,8 +140,8 @@ impl Overview {
     }
 
     /// Puts the whole reply to the one question of a request in the place of another reply. Returns whether it did: not
-    /// where there is not just one question, where an owner name lies outside the zone, or where memory was refused;
-    /// then nothing is promised of the reply.
+    /// where there is not just one question, where some owner name may own no records of the zone, or where memory was
+    /// refused; then nothing is promised of the reply.
     #[inline(always)]
     pub fn search_whole<'z>(
         self,
@@ -151,7 +151,8 @@ impl Overview {
         reply: &mut WholeReply<'z>,
     ) -> bool
         requires { IsOverview zone.now self }
-        ensures { IsTrue result → Searched zone.now request.now (whole_answer reply.new) }
+        ensures searched { IsTrue result → Searched zone.now request.now (whole_answer reply.new) }
+        ensures owned { IsTrue result → AreOwners zone.now.origin zone.now.sets }
     {
         if !self.is_owned {
             return false;

@@ -24,6 +24,6 @@ ttl_at (r ∷ rs) q = cond (same_record q r) (Some r.ttl) (ttl_at rs q)
 abbrev pub SameZone : List (Record RData) → List (Record RData) → Type 0
 SameZone zone other = (q : Record RData) → ttl_at zone q ≡ ttl_at other q
 
--- The name lies in the zone of this origin: it is the origin, or below it (RFC 1034 section 4.2).
+-- The name is the zone's origin, or below it, whatever is delegated (`zone_of` in RFC 2136 sections 3.2.5 and 3.4.1.3).
 abbrev pub is_in_zone : DomainName → DomainName → Bool
 is_in_zone origin name = encloses origin.labels name.labels

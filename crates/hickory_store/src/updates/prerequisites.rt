@@ -113,7 +113,8 @@ fn verify(
     zone: &InMemoryZoneHandler,
     prerequisites: &[Record],
 ) -> Result<(), UpdateFault>
-    ensures { Tells (prerequisite_section_refusal zone.now.origin (zone_records zone.now.sets) prerequisites.now) result }
+    ensures { Tells (prerequisite_section_refusal zone.now.origin (zone_records zone.now.sets) prerequisites.now)
+        result }
 {
     check_all(alloc, zone, prerequisites)?;
     require(

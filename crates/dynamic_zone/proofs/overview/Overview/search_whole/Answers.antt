@@ -15,5 +15,5 @@ use Rattle.dynamic_zone.proofs.overview.Overview.search_whole.Goals as goal
 replied_whole : (zone : MemoryZone) (asked : Result Query LookupError) (query : Query) (reply : WholeReply) → asked ≡ Ok query → RepliesTo (as_zone zone) query reply → SearchedFor zone asked (whole_answer reply)
 replied_whole zone asked query reply is told = subst (λ (q : Result Query LookupError). SearchedFor zone q (whole_answer reply)) (sym is) (Ok (lookup.Whole reply), inl (λ owners. in_whole told), refl)
 
-pub returns : goal.returns
-returns c = λ put. replied_whole c.args.zone.now (one_query c.args.request.now.message.queries.queries) c.in-Ok.info.query.now c.put_whole.new.reply c.in-Ok.ensures.query (c.put_whole.ensures put)
+pub returns-clause-searched : goal.returns-clause-searched
+returns-clause-searched c = λ put. replied_whole c.args.zone.now (one_query c.args.request.now.message.queries.queries) c.in-Ok.info.query.now c.put_whole.new.reply c.in-Ok.ensures.query (c.put_whole.ensures put)
