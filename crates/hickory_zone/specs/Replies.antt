@@ -17,7 +17,7 @@ use Rattle.hickory_zone.specs.Endings.{Ending}
 use Rattle.hickory_zone.specs.Endings as ended
 use Rattle.hickory_zone.specs.Zones.{Records, Zone, rrset}
 
--- its apex and its RRsets
+-- a zone in memory as its apex and its RRsets
 abbrev pub as_zone : MemoryZone → Zone
 as_zone zone = record { origin = zone.origin; sets = zone.sets }
 

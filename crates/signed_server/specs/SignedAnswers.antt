@@ -108,16 +108,16 @@ pub data AreSigned (keys : List Key) (judgement : Judgement) (now : ℕ) : List 
       → signed_behind keys judgement prior message now ≡ Some reply
       → AreSigned keys judgement now (messages ++ message ∷ []) (leaving ++ reply.bytes ∷ []) (Some reply.mac)
 
--- What leaves in the place of replies to a request that was judged so.
-pub record AreSent (keys : List Key) (rules : Rules) (judged : JudgedRequest) (replies leaving : List (List ℕ)) : Type 0 where
+-- What leaves, signed, in the place of replies to a request that was judged so.
+pub record AreSentSigned (keys : List Key) (rules : Rules) (judged : JudgedRequest) (replies leaving : List (List ℕ)) : Type 0 where
   pub messages : List (List ℕ)
   pub last : Option (List ℕ)
   pub to_be_signed : AreToBeSigned (message_limit keys judged.judgement rules judged.request) judged.request.message replies messages
   pub signed : AreSigned keys judged.judgement judged.now messages leaving last
 
--- What leaves in the place of an answer: of its replies, these; and an answer without a reply stays.
+-- What leaves in the place of an answer: its replies, signed; and an answer without a reply stays.
 abbrev pub IsSentSigned : List Key → Rules → JudgedRequest → Answer → Answer → Type 0
-IsSentSigned keys rules judged (Replies replies) answer = (leaving : List (List ℕ)) × AreSent keys rules judged replies leaving × (answer ≡ Replies leaving)
+IsSentSigned keys rules judged (Replies replies) answer = (leaving : List (List ℕ)) × AreSentSigned keys rules judged replies leaving × (answer ≡ Replies leaving)
 IsSentSigned keys rules judged other answer = answer ≡ other
 
 -- What leaves for a request whose signature is bad: the question with the code, and a TSIG record that tells why, where

@@ -4,7 +4,7 @@ ghost use Rattle.std.specs.Prelude.{◌≡◌, ◌≤◌, ◌↔◌, All, IfOk, 
 ghost use Rattle.std.specs.List.{AllZip};
 ghost use Rattle.hickory_base.specs.responses.Responses.{error_metadata};
 ghost use Rattle.tsig.specs.Stripping.{IsStripped};
-ghost use Rattle.signed_server.specs.SignedAnswers.{AreSent, AreToBeSigned, Fits, IsRefused, message_limit, refusal_code, reply_limit, truncated};
+ghost use Rattle.signed_server.specs.SignedAnswers.{AreSentSigned, AreToBeSigned, Fits, IsRefused, message_limit, refusal_code, reply_limit, truncated};
 
 use crate::bare::bare;
 use crate::chains::signed;
@@ -100,7 +100,7 @@ pub(crate) fn sent(
     now: u64,
     replies: Items<Octets>,
 ) -> Result<Items<Octets>, AllocError>
-    ensures { IfOk result (AreSent keys.now rules.now
+    ensures { IfOk result (AreSentSigned keys.now rules.now
         (record { request = request.now; judgement = judgement.now; now = now }) replies) }
 {
     let limit = message_limit(keys, judgement, rules, request);

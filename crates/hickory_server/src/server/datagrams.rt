@@ -195,7 +195,7 @@ fn cut(alloc: Global, reply: Octets, src: SocketAddr, limit: u16) -> Result<Octe
     shorter
 }
 
-/// A reply within the limit: itself, or with as many records as fit.
+/// A reply within the limit: itself, or without the records that have no room in full.
 fn bounded(alloc: Global, reply: Octets, src: SocketAddr, limit: u16) -> Result<Octets, AllocError>
     requires { 12 ≤ limit }
     ensures { IfOk result (IsBounded limit reply) }
@@ -206,7 +206,7 @@ fn bounded(alloc: Global, reply: Octets, src: SocketAddr, limit: u16) -> Result<
     cut(alloc, reply, src, limit)
 }
 
-/// Replies within the limit, each itself, or with as many records as fit.
+/// Replies within the limit, each itself, or without the records that have no room in full.
 fn bounded_replies(
     alloc: Global,
     replies: Items<Octets>,
