@@ -44,9 +44,9 @@ header_alone id = record {
   signature = None;
 }
 
--- What is sent in the place of the reply: the message that begins it, without its signature, as it is encoded within the
--- limit, TC where a record is left out, an additional one too, which RFC 2181 section 9 would let go silently; or where
--- it begins with no message that is read, as with a SIG record among its answers, TC alone.
+-- What is sent in the place of the reply: the message that begins it, without its signature, as it is encoded within
+-- the limit, TC where a record is left out, an additional one too, which RFC 2181 section 9 would let go silently; or
+-- where it begins with no message that is read, as with a SIG record among its answers, TC alone.
 pub data IsFitted (limit : ℕ) (reply bytes : List ℕ) : Type 0 where
   read : {message : MessageRequest} {header : Header} → MessageAt reply (message_of message) → IsQuestionSection reply message.queries
       → ReplyEncoded limit (without_signature message) bytes header → IsFitted limit reply bytes
