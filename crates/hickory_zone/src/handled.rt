@@ -43,8 +43,8 @@ pub fn whole<'z>(
     Ok(AuthLookup::Whole(reply))
 }
 
-/// Puts the whole reply to a question, as `whole` has it, in the place of another reply, and returns whether it did: not
-/// where memory was refused. Then nothing is promised of the reply.
+/// Puts the whole reply to a question, as `whole` has it, in the place of another reply, and returns whether it did:
+/// not where memory was refused. Then nothing is promised of the reply.
 #[inline(always)]
 pub fn put_whole<'z>(
     alloc: Global,
