@@ -12,12 +12,12 @@ use Rattle.hickory_catalog.specs.replies.Replies.{Contents}
 use Rattle.hickory_zone.specs.declared.zone_with_parent.ZoneWithParent.{ZoneWithParent}
 use Rattle.hickory_zone.specs.Handled.{StandsFor}
 use Rattle.hickory_zone.specs.Parents.{IsGiven, asked_above}
-use Rattle.hickory_zone.specs.Replies.{RepliesTo, zone_of}
+use Rattle.hickory_zone.specs.Replies.{RepliesTo, as_zone}
 
 -- The server says what the zone replies to the question, and nothing else.
 pub record SaysTheReply (zone : MemoryZone) (request : ReceivedRequest) (query : Query) (contents : Contents) : Type 0 where
   pub reply : WholeReply
-  pub replies : RepliesTo (zone_of zone) query reply
+  pub replies : RepliesTo (as_zone zone) query reply
   pub says : contents ≡ whole_contents request.message.metadata reply
 
 -- Whatever stands for the zone's reply, the server makes that reply of it.

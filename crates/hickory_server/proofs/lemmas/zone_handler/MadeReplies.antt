@@ -33,7 +33,7 @@ use Rattle.hickory_base.specs.declared.zone_store.lookup.WholeReply.{WholeReply}
 use Rattle.hickory_zone.proofs.lemmas.names.EnclosedBetween.{equal_of}
 use Rattle.hickory_zone.specs.Additionals.{is_hostless, target_start}
 use Rattle.hickory_zone.specs.Handled.{LookedUp, StandsFor, by_no_data, by_no_name, by_records, in_whole, is_held, is_soa, question, records_of}
-use Rattle.hickory_zone.specs.Replies.{RepliesTo, denial_soa, whole, zone_of}
+use Rattle.hickory_zone.specs.Replies.{RepliesTo, as_zone, denial_soa, whole}
 use Rattle.hickory_zone.specs.Zones.{Records}
 use Rattle.hickory_zone.specs.declared.zone_with_parent.ZoneWithParent.{ZoneWithParent}
 use Rattle.hickory_zone.specs.Parents.{IsGiven, asked_above}
@@ -82,19 +82,19 @@ module _ {H : Type 0} (handler : Ghosts H) (h : H) (zone : MemoryZone) (nx : han
   no_denial true options given d = subst (λ (kind : Option NxProofKind). DenialGiven handler h (record { query = query; from_wildcard = false; options = options }) kind given) nx d
   no_denial false options given d = d
 
-  is_apex : is_soa (zone_of zone) zone.origin 6 ≡ true
+  is_apex : is_soa (as_zone zone) zone.origin 6 ≡ true
   is_apex = ap (λ order. is_eq order && (6 == 6)) (equal_of zone.origin zone.origin (itself zone.origin))
 
-  the_soa : (options : LookupOptions) (flow : Flow) → handler.lookup_gives h (handler.origin_of h) 6 None options flow → wants_memory flow ≡ false → flow ≡ Continue (Ok (lookup.Records (denial_soa (zone_of zone)) []))
+  the_soa : (options : LookupOptions) (flow : Flow) → handler.lookup_gives h (handler.origin_of h) 6 None options flow → wants_memory flow ≡ false → flow ≡ Continue (Ok (lookup.Records (denial_soa (as_zone zone)) []))
   the_soa options flow given wants =
       let l : LookedUp zone zone.origin 6 flow = soa options flow given in
       elim l.1 [
-        | inl is ↦ l.2 ∙ ap Continue (subst (λ (b : Bool). MatchBool b (l.0 ≡ Ok (lookup.Records (denial_soa (zone_of zone)) [])) ((reply : WholeReply) × RepliesTo (zone_of zone) (question zone.origin 6) reply × (l.0 ≡ records_of reply))) is_apex is)
+        | inl is ↦ l.2 ∙ ap Continue (subst (λ (b : Bool). MatchBool b (l.0 ≡ Ok (lookup.Records (denial_soa (as_zone zone)) [])) ((reply : WholeReply) × RepliesTo (as_zone zone) (question zone.origin 6) reply × (l.0 ≡ records_of reply))) is_apex is)
         | inr none ↦ absurd (false≢true (sym wants ∙ ap wants_memory (l.2 ∙ ap Continue none)))
       ]
 
   pub with_soa : (e : LookupError) → refusal_code e ≡ None → AuthoritativeReply handler h request query contents (Err e)
-      → contents ≡ whole_contents request.message.metadata (whole (negative_code e) true [] (denial_soa (zone_of zone)) [])
+      → contents ≡ whole_contents request.message.metadata (whole (negative_code e) true [] (denial_soa (as_zone zone)) [])
   with_soa e other (refuses {code = code} says is) = absurd (let f : None ≡ Some code = sym other ∙ says in cc)
   with_soa e other (denies denial given code d dw g gw is) =
       is ∙ ap (λ (x : Flow). negative_contents request.message.metadata e x given) (no_denial (options_of request).dnssec_ok (options_of request) denial d)
