@@ -6,7 +6,7 @@ ghost use Rattle.std.specs.Option.{option_or};
 ghost use Rattle.wire_names.specs.rr.domain.NameOrder.{lower_name};
 ghost use Rattle.wire_messages.specs.Numbers.{code_refused};
 ghost use Rattle.wire_messages.specs.declared.rr.tsig.TSigResponseContext.{TSigResponseContext};
-ghost use Rattle.hickory_base.specs.zone_store.Lookups.{result_of};
+ghost use Rattle.hickory_base.specs.zone_store.Lookups.{Flow, result_of};
 ghost use Rattle.hickory_base.specs.requests.Requests.{information_of};
 ghost use Rattle.hickory_base.specs.declared.zone_store.lookup.LookupControlFlow.TheVariants.{Skip};
 ghost use Rattle.hickory_catalog.specs.queries.Transcripts.{Asked, ChainAnswers, Consulted, IsAnswer, is_memory, options_of, wants_memory};
@@ -248,6 +248,34 @@ fn consult<'z, H: ZoneHandler>(
         }
         consult_one(&handlers[i], alloc, info, options, given);
     }
+}
+
+/// Whether a handler leaves any answer as it is, where it is consulted about it.
+#[inline(always)]
+fn leaves<H: ZoneHandler>(handler: &H, info: &RequestInfo<'_>, options: LookupOptions) -> bool
+    ensures { IsTrue result → (last : Flow) →
+        H.consult_gives handler.now (lower_name info.now.query.now.name) info.now.query.now.query_type
+        (Some (information_of info.now)) options last last None }
+{
+    let name = info.query.name();
+    handler.leaves(name, info.query.query_type(), Some(info), options)
+}
+
+/// Whether handlers leave any answer as it is, where they are consulted about it.
+pub(crate) fn all_leave<H: ZoneHandler>(
+    handlers: &[H],
+    info: &RequestInfo<'_>,
+    options: LookupOptions,
+) -> bool
+    ensures { IsTrue result → (given : Flow × Option TSigResponseContext) → wants_memory given.0 ≡ false →
+        Consulted H.ZoneHandler (information_of info.now) options handlers.now given given }
+{
+    for i in 0..handlers.len() {
+        if !leaves(&handlers[i], info, options) {
+            return false;
+        }
+    }
+    true
 }
 
 /// Consults each handler but the one that was asked about its answer, and puts what they answer in its place.

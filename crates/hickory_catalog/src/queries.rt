@@ -1,10 +1,10 @@
 //! From a query to its replies.
 
-ghost use Rattle.std.specs.Prelude.{◌≡◌, ◌==◌, ◌<◌, ◌^◌, ◌∷◌, [], ℕ, true, false, List, Option, IfOk, IfErr, IfSome, IfNone, IsSome, None, Some, length, slice_get};
+ghost use Rattle.std.specs.Prelude.{◌≡◌, ◌==◌, ◌<◌, ◌^◌, ◌∷◌, [], ℕ, true, false, List, Option, IfOk, IfErr, IfSome, IfNone, IsSome, IsTrue, None, Some, length, slice_get};
 ghost use Rattle.wire_messages.specs.Numbers.{type_axfr};
 ghost use Rattle.wire_messages.specs.serialize.writing.Reply.{Reply};
 ghost use Rattle.wire_messages.specs.declared.rr.tsig.TSigResponseContext.{TSigResponseContext};
-ghost use Rattle.hickory_base.specs.zone_store.Lookups.{result_of, whole_answer, whole_reply};
+ghost use Rattle.hickory_base.specs.zone_store.Lookups.{Flow, result_of, whole_answer, whole_reply};
 ghost use Rattle.hickory_base.specs.requests.Requests.{information};
 ghost use Rattle.hickory_base.specs.responses.Responses.{header_of};
 ghost use Rattle.hickory_catalog.specs.queries.Forwarded.{forwarded_contents};
@@ -13,13 +13,15 @@ ghost use Rattle.hickory_catalog.specs.replies.Replies.{Contents, contents_of, u
 ghost use Rattle.hickory_catalog.specs.replies.Sending.{IsUntouched, Sends, SendsInOrder};
 ghost use Rattle.hickory_catalog.specs.requests.Server.{server_of};
 ghost use Rattle.hickory_catalog.specs.replies.Signing.{SignedReply};
-ghost use Rattle.hickory_catalog.specs.queries.Transcripts.{ChainAnswers, options_of};
+ghost use Rattle.hickory_catalog.specs.queries.Transcripts.{ChainAnswers, Consulted, options_of, wants_memory};
 ghost use Rattle.hickory_catalog.specs.transfers.Transfers.{transfer_contents};
 ghost use Rattle.hickory_catalog.specs.transfers.WholeTransfers.{ChainTransfers};
 
 use crate::authoritative::authoritative_contents;
 use crate::catalog::Catalog;
-use crate::chains::{ChainAnswer, Given, chain_answer, is_memory, options_of, unanswered};
+use crate::chains::{
+    ChainAnswer, Given, all_leave, chain_answer, is_memory, options_of, unanswered,
+};
 use crate::contents::ReplyContents;
 use crate::edns::set_high_code;
 use crate::forwarded::forwarded_contents;
@@ -531,6 +533,27 @@ fn answer_in_place<'q, S: ReplySigner, H: ZoneHandler, R: ResponseHandler>(
     answer_chained(asked, answer.place, &mut answer.given, edns, sink)
 }
 
+/// Whether handlers leave any answer to a query as it is, where it is replied to with this EDNS.
+#[inline(always)]
+fn others_leave<S: ReplySigner, H: ZoneHandler>(
+    asked: &ZoneQuery<'_, S, H>,
+    others: &[H],
+    edns: &Option<Edns>,
+) -> bool
+    ensures { IsTrue result → (given : Flow × Option TSigResponseContext) → wants_memory given.0 ≡ false →
+        Consulted H.ZoneHandler (information asked.now.request.now asked.now.query.now)
+        (consult_options edns.now) others.now given given }
+{
+    let request = asked.request;
+    let info = RequestInfo::new(
+        request.src(),
+        request.protocol(),
+        request.metadata(),
+        asked.query,
+    );
+    all_leave(others, &info, LookupOptions::from_edns(edns.as_ref()))
+}
+
 /// Answers a query of a zone of other chains, but for a transfer, and hands the reply over, with this EDNS.
 #[inline(never)]
 fn answer_by_chain<S: ReplySigner, H: ZoneHandler, R: ResponseHandler>(
@@ -549,6 +572,33 @@ fn answer_by_chain<S: ReplySigner, H: ZoneHandler, R: ResponseHandler>(
     answer_in_place(asked, edns, sink, &mut ChainAnswer::unasked())
 }
 
+/// Answers a query of a zone of several handlers, but for a transfer, and hands the reply over, with this EDNS.
+#[inline(never)]
+fn answer_by_several<'q, S: ReplySigner, H: ZoneHandler, R: ResponseHandler>(
+    asked: &ZoneQuery<'q, S, H>,
+    first: &'q H,
+    others: &'q [H],
+    edns: &mut Option<Edns>,
+    sink: &mut R,
+) -> Result<ResponseInfo, CatalogError>
+    requires lookup { (asked.now.query.now.query_type == type_axfr) ≡ false }
+    requires chain { asked.now.chain.now ≡ first.now ∷ others.now }
+    ensures replied { IfOk result (λ info. (reply : Reply) ×
+        ZoneReply (server_of H.ZoneHandler S.signature_for asked.now.catalog.now) asked.now.chain.now
+        (record { request = asked.now.request.now; query = asked.now.query.now }) edns.old asked.now.moment reply ×
+        Sends R.ResponseHandler asked.now.request.now.message.metadata sink.old sink.new reply (header_of info)) }
+    ensures refused { IfErr result (λ e. (e ≡ CatalogError.Memory) × IsUntouched R.ResponseHandler sink.old sink.new) }
+{
+    if !others_leave(asked, others, edns) {
+        return answer_by_chain(asked, edns, sink);
+    }
+    // speed: served, an address past a block list. A whole reply that the others leave is sent from where it is put.
+    if let Some(told) = answer_put(asked, first, edns, sink, &mut unanswered()) {
+        return Ok(told);
+    }
+    answer_by_chain(asked, edns, sink)
+}
+
 /// Answers a query of a zone, but for a transfer, by its handlers, and hands the reply over, with this EDNS.
 fn answer_lookup<S: ReplySigner, H: ZoneHandler, R: ResponseHandler>(
     asked: &ZoneQuery<'_, S, H>,
@@ -564,7 +614,8 @@ fn answer_lookup<S: ReplySigner, H: ZoneHandler, R: ResponseHandler>(
 {
     match asked.chain {
         [handler] => answer_alone(asked, handler, edns, sink),
-        _ => answer_by_chain(asked, edns, sink),
+        [first, others @ ..] => answer_by_several(asked, first, others, edns, sink),
+        [] => answer_by_chain(asked, edns, sink),
     }
 }
 

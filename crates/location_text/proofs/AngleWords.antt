@@ -1,5 +1,5 @@
 -- The words of angles.
-use Rattle.std.proofs.Common.{◌≡◌, ◌∙◌, ◌+◌, ◌*◌, ◌<◌, ◌≤◌, ℕ, List, [], ◌∷◌, length, get_or, sym, ap, subst, refl, arith}
+use Rattle.std.proofs.Common.{◌≡◌, ◌∙◌, ◌+◌, ◌*◌, ◌<◌, ℕ, List, [], ◌∷◌, length, get_or, sym, ap, subst, refl, arith}
 use Rattle.text_words.specs.declared.words.Word.{Word}
 use Rattle.location_text.proofs.DecimalOnce.{decimal_once}
 use Rattle.location_text.specs.LocationText.{HasNone, IsAngle, IsDegrees, IsMinutes, IsSeconds}

@@ -1,11 +1,11 @@
 -- The same words are the same location, and all locations take as many octets.
-use Rattle.std.proofs.Common.{◌≡◌, ◌∙◌, ◌+◌, ◌-◌, ◌<◌, ℕ, Bool, true, false, List, [], ◌∷◌, ◌++◌, cond, length, sym, ap, subst, refl, arith, length-append}
-use Rattle.std.specs.Prelude.{◌==◌, ◌≢◌, bytes_eq, if◌then◌else◌}
+use Rattle.std.proofs.Common.{◌≡◌, ◌∙◌, ◌+◌, ◌-◌, ℕ, Bool, true, false, List, [], ◌∷◌, ◌++◌, cond, length, sym, ap, subst, refl, arith, length-append}
+use Rattle.std.specs.Prelude.{◌==◌, bytes_eq, if◌then◌else◌}
 use Rattle.std.specs.Int.{w32, to_be_bytes}
 use Rattle.text_words.specs.declared.words.Word.{Word}
 use Rattle.text_words.specs.Spelling.{IsNumber}
 use Rattle.text_words.specs.Words.{AreSameWords, SameWord}
-use Rattle.location_text.specs.LocationText.{AreSizes, IsAltitude, IsAngle, IsCoordinate, IsDecimal, IsDegrees, IsLocation, IsMinutes, IsSeconds, IsSize, before_letter, behind_letter, letter_in, letter_of, location_octets}
+use Rattle.location_text.specs.LocationText.{AreSizes, IsAltitude, IsAngle, IsCoordinate, IsDecimal, IsDegrees, IsLocation, IsMinutes, IsSeconds, IsSize, before_letter, behind_letter, letter_in, letter_of}
 use Rattle.location_text.specs.LocationText.AreSizes.{none, one, two, three}
 use Rattle.location_text.specs.LocationText.IsAngle.{degrees, minutes, seconds}
 

@@ -1,8 +1,7 @@
 -- One digit less, of which there is one more behind the first.
-use Rattle.std.proofs.Common.{◌≡◌, ◌∙◌, ◌+◌, ◌*◌, ◌/◌, ◌%◌, ◌^◌, ◌<◌, ◌≤◌, ◌⊎◌, ℕ, zero, suc, sym, ap, subst, refl, arith, mod-lt}
+use Rattle.std.proofs.Common.{◌≡◌, ◌∙◌, ◌+◌, ◌*◌, ◌/◌, ◌%◌, ◌^◌, ◌<◌, ◌≤◌, ℕ, zero, suc, sym, ap, subst, arith, mod-lt}
 use Rattle.std.proofs.lemmas.Nat.{div-add-mod', div-mul-add, mul-add-lt, pow-add}
 use Rattle.std.proofs.Math.Nat.{pow-suc}
-use Rattle.location_text.specs.LocationText.{IsSizeOctet}
 
 spread : (p s r q n a b : ℕ) → p * b + s ≡ q → q * a + r ≡ n → p * (a * b) + (s * a + r) ≡ n
 spread p s r q n a b outer inner = subst (λ (k : ℕ). p * (a * b) + (s * a + r) ≡ k) inner (subst (λ (k : ℕ). p * (a * b) + (s * a + r) ≡ k * a + r) outer (omega arith))

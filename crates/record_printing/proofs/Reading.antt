@@ -9,7 +9,6 @@ use Rattle.std.proofs.lemmas.List.Elements.{All-append, All-cons, All-head, All-
 use Rattle.hex.specs.Hex.{decode_of, encode_with}
 use Rattle.hex.proofs.HexLemmas.{decode_of-encode_upper, decode_of-same}
 use Rattle.wire_names.specs.rr.domain.DomainName.{AreLabels, DomainName}
-use Rattle.wire_names.specs.declared.error.ProtoError.{ProtoError}
 use Rattle.wire_messages.specs.rr.RecordData.{type_of}
 use Rattle.wire_messages.specs.declared.rr.rdata.RData.{RData}
 use Rattle.wire_messages.specs.declared.rr.rdata.RData.TheVariants as rdata
@@ -24,7 +23,7 @@ use Rattle.text_words.specs.Spelling.{IsNumber}
 use Rattle.text_words.specs.Words.{AreSameWords, SameWord}
 use Rattle.text_words.proofs.WordsOnce.{stand_once}
 use Rattle.record_text.specs.declared.data.field.Field.{Field}
-use Rattle.record_text.specs.RecordText.{AreFields, ArePlain, AreReadOf, BeginGeneric, HasData, IsField, IsGenericData, IsRest, IsRow, SpellsData, bytes_of, root_record}
+use Rattle.record_text.specs.RecordText.{AreFields, ArePlain, AreReadOf, BeginGeneric, IsField, IsRest, IsRow, SpellsData, bytes_of, root_record}
 use Rattle.record_text.specs.RecordText.AreFields.{none as no_fields, more as one_field}
 use Rattle.record_text.specs.RecordText.IsData.{in_form as of_row}
 use Rattle.record_text.specs.RecordText.SpellsData.{in_form as spells_form, generic as spells_generic}

@@ -29,7 +29,6 @@ use Rattle.record_text.specs.declared.data.field.Rest.TheVariants as rest
 use Rattle.record_text.specs.declared.data.field.Row.{Row}
 use Rattle.location_text.specs.LocationText.{IsLocation}
 use Rattle.service_text.specs.ServiceText.{AreServiceParameters}
-use Rattle.text_words.specs.declared.words.TextKind.{TextKind}
 use Rattle.text_words.specs.declared.words.Word.{Word}
 use Rattle.record_text.specs.Moments.{SpellsMoment}
 use Rattle.record_text.specs.declared.data.hex_groups.Group.TheVariants as group

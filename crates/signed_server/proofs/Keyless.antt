@@ -1,5 +1,5 @@
 -- What becomes of a message where there is no key.
-use Rattle.std.proofs.Common.{[], ℕ, List, refl}
+use Rattle.std.proofs.Common.{[], List, refl}
 use Rattle.wire_names.specs.rr.domain.DomainName.{DomainName}
 use Rattle.hickory_catalog.specs.requests.Server.{Server}
 use Rattle.hickory_server.specs.declared.server.answer.Answer.{Answer}

@@ -13,9 +13,10 @@ ghost use Rattle.hickory_base.specs.representation.Lending.{LendsMetadata};
 ghost use Rattle.hickory_base.specs.responses.Responses.{HasNoRecords, IsBuilt, IsReplyOf, base_of, error_metadata, header_of};
 
 use crate::requests::message_request::{MessageRequest, Queries};
+use crate::responses::response_encoding::encode_response;
 use hickory_wire::{
     BinEncoder, Boxed, Edns, Header, HeaderCounts, Metadata, ProtoError, Protocol, Record,
-    ReplyParts, ResponseCode, TSIG, emit_message_parts, encode_message_parts,
+    ReplyParts, ResponseCode, TSIG, emit_message_parts,
 };
 use std::alloc::Global;
 use std::iter;
@@ -199,31 +200,7 @@ where
             ReplyEncoded (size_limit protocol reply.edns) reply made.1.items (header_of made.0)) }
         ensures err { OnErr result (result ≡ Err ProtoError.Memory) }
     {
-        let MessageResponse {
-            metadata,
-            queries,
-            answers,
-            authorities,
-            soa,
-            additionals,
-            signature,
-            edns,
-            records: _,
-        } = self;
-        let limit = size_limit(protocol, edns);
-        let parts = ReplyParts {
-            metadata,
-            question: queries.as_bytes(),
-            question_count: queries.count(),
-            edns,
-            answers,
-            authorities,
-            soa,
-            additionals,
-            signature: borrowed(&signature),
-        };
-        let (header, bytes) = encode_message_parts(alloc, limit, parts)?;
-        Ok((ResponseInfo { header }, bytes))
+        encode_response(alloc, self, protocol)
     }
 }
 

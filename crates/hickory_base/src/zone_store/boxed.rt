@@ -91,6 +91,16 @@ impl ZoneHandler for Box<dyn ZoneHandler> {
         (**self).search_whole(alloc, request, options, reply)
     }
 
+    fn leaves(
+        &self,
+        name: &LowerName,
+        record_type: RecordType,
+        info: Option<&RequestInfo<'_>>,
+        options: LookupOptions,
+    ) -> bool {
+        (**self).leaves(name, record_type, info, options)
+    }
+
     fn consult<'z>(
         &'z self,
         alloc: Global,

@@ -128,6 +128,20 @@ impl<L: ZoneHandler, R: ZoneHandler> ZoneHandler for Either<L, R> {
         }
     }
 
+    #[inline(always)]
+    fn leaves(
+        &self,
+        name: &LowerName,
+        record_type: RecordType,
+        info: Option<&RequestInfo<'_>>,
+        options: LookupOptions,
+    ) -> bool {
+        match self {
+            Left(handler) => handler.leaves(name, record_type, info, options),
+            Right(handler) => handler.leaves(name, record_type, info, options),
+        }
+    }
+
     fn consult<'z>(
         &'z self,
         alloc: Global,

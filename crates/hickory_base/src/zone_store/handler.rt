@@ -175,6 +175,21 @@ pub trait ZoneHandler: Drop {
         false
     }
 
+    /// Whether it gives any answer back as it is, with nothing for a signer, where it is consulted about this name and
+    /// type. Where it does not say so, `consult` is to be asked. A handler that does not say otherwise never says so.
+    fn leaves(
+        &self,
+        name: &LowerName,
+        record_type: RecordType,
+        info: Option<&RequestInfo<'_>>,
+        options: LookupOptions,
+    ) -> bool
+        ensures { IsTrue result → (last : Flow) → consult_gives self.now name.now record_type
+            (option_map information_of (option_copied info.entry)) options last last None }
+    {
+        false
+    }
+
     /// Looks at what another handler of the chain answered, and answers in its place or gives it back.
     fn consult<'z>(
         &'z self,

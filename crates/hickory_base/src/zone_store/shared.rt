@@ -94,6 +94,17 @@ impl<H: ZoneHandler> ZoneHandler for Rc<H> {
         (**self).search_whole(alloc, request, options, reply)
     }
 
+    #[inline(always)]
+    fn leaves(
+        &self,
+        name: &LowerName,
+        record_type: RecordType,
+        info: Option<&RequestInfo<'_>>,
+        options: LookupOptions,
+    ) -> bool {
+        (**self).leaves(name, record_type, info, options)
+    }
+
     fn consult<'z>(
         &'z self,
         alloc: Global,

@@ -14,7 +14,6 @@ use Rattle.hickory_base.specs.requests.Requests.{ReceivedRequest, TimedRequest}
 use Rattle.hickory_base.specs.declared.errors.CatalogError.{CatalogError}
 use Rattle.hickory_base.specs.declared.errors.CatalogError.TheVariants as catalog_error
 use Rattle.hickory_base.specs.declared.errors.LookupError.{LookupError}
-use Rattle.hickory_base.specs.declared.errors.UpdateFault.{UpdateFault}
 use Rattle.hickory_base.specs.declared.errors.UpdateFault.TheVariants.{Code, Memory}
 use Rattle.hickory_base.specs.declared.zone_store.handler.ZoneHandler.{Ghosts}
 use Rattle.hickory_base.specs.declared.zone_store.handler.ZoneType.{ZoneType}

@@ -7,7 +7,7 @@ use Rattle.wire_messages.specs.declared.protocol.Protocol.TheVariants.{Udp}
 use Rattle.hickory_base.specs.requests.Questions.{payload_limit}
 use Rattle.hickory_base.specs.requests.Requests.{ReceivedRequest}
 use Rattle.hickory_base.specs.declared.zone_store.handler.ZoneHandler.{Ghosts}
-use Rattle.hickory_catalog.specs.requests.Server.{Server, server_of}
+use Rattle.hickory_catalog.specs.requests.Server.{server_of}
 use Rattle.hickory_catalog.specs.replies.Signing.{Signer}
 use Rattle.hickory_catalog.specs.zones.Zones.{AreInOrder}
 use Rattle.hickory_catalog.specs.declared.catalog.Catalog.{Catalog}

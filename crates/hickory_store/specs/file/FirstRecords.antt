@@ -1,5 +1,5 @@
 -- Records of which each counts once (RFC 2181 section 5).
-use Rattle.std.specs.Prelude.{◌≡◌, ◌&&◌, ℕ, Bool, nat_eq, cond, List, [], ◌∷◌, ◌++◌, fold}
+use Rattle.std.specs.Prelude.{◌≡◌, ◌&&◌, Bool, nat_eq, cond, List, [], ◌∷◌, ◌++◌, fold}
 use Rattle.std.specs.HashSet.{HashSet, contains}
 use Rattle.std.specs.List.{list_any}
 use Rattle.wire_messages.specs.declared.rr.rdata.RData.{RData}

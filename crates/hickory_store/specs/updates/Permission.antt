@@ -5,7 +5,6 @@ use Rattle.std.specs.declared.ops.Range.{Range}
 use Rattle.wire_messages.specs.Numbers.{code_not_auth, code_refused}
 use Rattle.wire_messages.specs.declared.rr.record.Record.{Record}
 use Rattle.wire_messages.specs.declared.rr.tsig.TSIG.{TSIG}
-use Rattle.wire_messages.specs.declared.rr.tsig.TSigResponseContext.{TSigResponseContext}
 use Rattle.wire_messages.specs.declared.rr.tsig.TSigResponseKind.{TSigResponseKind}
 use Rattle.wire_messages.specs.declared.rr.tsig.TSigResponseKind.TheVariants.{UnknownKey, BadSignature, Known}
 use Rattle.wire_messages.specs.declared.rr.tsig.TsigError.TheVariants.{BadTime}

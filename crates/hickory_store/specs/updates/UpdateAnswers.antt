@@ -6,7 +6,7 @@ use Rattle.wire_messages.specs.Numbers.{code_serv_fail, type_soa}
 use Rattle.wire_messages.specs.declared.rr.rdata.RData.{RData}
 use Rattle.wire_messages.specs.declared.rr.rdata.RData.TheVariants as rdata
 use Rattle.wire_messages.specs.declared.rr.record.Record.{Record}
-use Rattle.hickory_base.specs.requests.Requests.{ReceivedRequest, TimedRequest}
+use Rattle.hickory_base.specs.requests.Requests.{TimedRequest}
 use Rattle.hickory_base.specs.requests.Updates.{UpdateMessage, update_of}
 use Rattle.hickory_base.specs.zone_store.ZoneAnswers.{MemoryZone}
 use Rattle.hickory_base.specs.zone_store.ZoneRecords.{is_at}

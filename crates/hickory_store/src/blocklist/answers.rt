@@ -109,6 +109,13 @@ impl BlocklistZoneHandler {
             .is_under_wildcard(name, self.config.min_wildcard_depth)
     }
 
+    /// Whether a name is not blocked; `false` also where memory is refused.
+    fn is_free(&self, name: &LowerName) -> bool
+        ensures { IsTrue result → ¬ (IsBlockedBy self.now name.now) }
+    {
+        matches!(self.is_blocked(name), Ok(false))
+    }
+
     /// What a blocked name is answered with, and nothing for any other name.
     fn block<'z>(
         &self,
@@ -219,6 +226,19 @@ impl ZoneHandler for BlocklistZoneHandler {
                 (answer, None)
             }
             Err(e) => (LookupControlFlow::Break(Err(e)), None),
+        }
+    }
+
+    fn leaves(
+        &self,
+        name: &LowerName,
+        _record_type: RecordType,
+        _info: Option<&RequestInfo<'_>>,
+        _options: LookupOptions,
+    ) -> bool {
+        match self.config.consult_action {
+            BlocklistConsultAction::Enforce => self.is_free(name),
+            BlocklistConsultAction::Disabled | BlocklistConsultAction::Log => true,
         }
     }
 

@@ -32,18 +32,18 @@ impl Model for Entries {
     ghost invariant = { λ entries. AreKept entries.names.keys entries.wildcard_bases.keys };
 }
 
-/// Whether a fully qualified name has at least so many labels.
-fn has_labels(mut name: LowerName, count: u8) -> bool
-    requires { name.is_fqdn ≡ true }
-    ensures { IsTrue result ↔ (count ≤ length name.labels) }
+/// How many labels a name has.
+fn label_count(name: &LowerName) -> usize
+    ensures { result ≡ length name.now.labels }
 {
-    for _ in 0..count {
-        if name.as_name().is_root() {
-            return false;
-        }
-        name.remove_first_label();
+    let wire = name.as_name().as_wire();
+    let mut count = 0;
+    let mut place = 0;
+    while place < wire.len() {
+        place += 1 + usize::from(wire[place]);
+        count += 1;
     }
-    true
+    count
 }
 
 impl Entries {
@@ -77,11 +77,20 @@ impl Entries {
         requires { name.now.is_fqdn ≡ true }
         ensures { IfOk result (λ under. IsTrue under ↔ IsUnderWildcard self.now depth name.now) }
     {
+        if self.wildcard_bases.is_empty() {
+            return Ok(false);
+        }
+        let shortest = usize::from(depth);
+        let count = label_count(name);
+        if count <= shortest {
+            return Ok(false);
+        }
         let mut base = name.clone()?;
-        while !base.as_name().is_root() {
+        // speed: served, an address past a block list. Shorter names have too few labels.
+        for _ in shortest..count {
             base.remove_first_label();
             if self.wildcard_bases.contains(&base) {
-                return Ok(has_labels(base, depth));
+                return Ok(true);
             }
         }
         Ok(false)

@@ -187,6 +187,16 @@ impl<V: Verifier> ZoneHandler for UpdatableZoneHandler<V> {
         self.in_memory.search(alloc, request, options)
     }
 
+    fn leaves(
+        &self,
+        _name: &LowerName,
+        _record_type: RecordType,
+        _info: Option<&RequestInfo<'_>>,
+        _options: LookupOptions,
+    ) -> bool {
+        true
+    }
+
     fn consult<'z>(
         &'z self,
         _alloc: Global,

@@ -149,6 +149,13 @@ impl ShortBytes {
         }
     }
 
+    /// Puts its ASCII letters into lower case.
+    fn make_lowercase(&mut self)
+        ensures { self.new ≡ map to_ascii_lowercase self.old }
+    {
+        self.bytes.make_ascii_lowercase();
+    }
+
     /// Takes the first bytes away.
     fn remove_front(&mut self, count: usize)
         requires { count ≤ length self.old }
@@ -262,12 +269,19 @@ impl Wire {
         self.set_any(alloc, bytes)
     }
 
-    /// Puts any bytes in the place of these, on the heap where they are many.
+    /// Puts any bytes in the place of these: many of them on the heap, where these are if there is room.
+    // speed: served, an address of 120 labels
     #[inline(never)]
     fn set_any(&mut self, alloc: Global, bytes: &[u8]) -> Result<(), AllocError>
         ensures done { OnOk result (wire_bytes self.new ≡ bytes.now) }
         ensures kept { OnErr result (self.new ≡ self.old) }
     {
+        if let Wire::Long(own) = self {
+            if bytes.len() > SHORT_LEN && bytes.len() <= own.capacity() {
+                own.clear();
+                return own.extend_from_slice(bytes);
+            }
+        }
         *self = Wire::from_slice(alloc, bytes)?;
         Ok(())
     }
@@ -286,6 +300,19 @@ impl Wire {
         };
         own.set_lowered(source);
         true
+    }
+
+    /// Puts any bytes with ASCII letters in lower case in the place of these. Where memory is refused, these stay.
+    pub(crate) fn set_any_lowered(&mut self, alloc: Global, source: &Wire) -> Result<(), AllocError>
+        ensures done { OnOk result (wire_bytes self.new ≡ map to_ascii_lowercase (wire_bytes source.now)) }
+        ensures kept { OnErr result (self.new ≡ self.old) }
+    {
+        self.set_any(alloc, source.as_slice())?;
+        match self {
+            Wire::Short(own) => own.make_lowercase(),
+            Wire::Long(own) => own.make_ascii_lowercase(),
+        }
+        Ok(())
     }
 
     /// The bytes.

@@ -144,6 +144,16 @@ impl ZoneHandler for InMemoryZoneHandler {
         (LookupControlFlow::Continue(found), None)
     }
 
+    fn leaves(
+        &self,
+        _name: &LowerName,
+        _record_type: RecordType,
+        _info: Option<&RequestInfo<'_>>,
+        _options: LookupOptions,
+    ) -> bool {
+        true
+    }
+
     fn consult<'z>(
         &'z self,
         _alloc: Global,

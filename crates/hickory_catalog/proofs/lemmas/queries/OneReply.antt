@@ -38,7 +38,7 @@ use Rattle.hickory_catalog.specs.requests.Server.{Server}
 use Rattle.hickory_catalog.specs.replies.Signing.{IsSigned, SignedReply, Signer, failed, plain, signed}
 use Rattle.hickory_catalog.specs.queries.Transcripts.{Asked, ChainAnswers, Consulted, Follows, Given, IsAnswer, all_consulted, consulted, options_of, out_of_memory, wants_memory}
 use Rattle.hickory_catalog.specs.queries.Transcripts as transcripts
-use Rattle.hickory_catalog.specs.transfers.Transfers.{AreRuns, TransferAsked, TransferGiven, size_without_answers, message_of_transfer, transfer_contents}
+use Rattle.hickory_catalog.specs.transfers.Transfers.{AreRuns, TransferAsked, TransferGiven, size_without_answers, message_of_transfer}
 use Rattle.hickory_catalog.specs.transfers.Transfers as transfers
 use Rattle.hickory_catalog.proofs.lemmas.transfers.Runs.{runs_once}
 use Rattle.hickory_catalog.specs.zones.Zones.{AreInOrder}

@@ -1,5 +1,5 @@
 -- What holds of whatever becomes of a message by the rules of a server.
-use Rattle.std.proofs.Common.{◌≡◌, ◌≤◌, ◌<◌, ◌⊎◌, inl, inr, ℕ, List, [], ◌∷◌, length, max, Ok, Contains, Option, Some, None, refl, sym, ap, subst, ◌∙◌, arith}
+use Rattle.std.proofs.Common.{◌≡◌, ◌≤◌, ◌<◌, ◌⊎◌, inl, inr, ℕ, List, [], ◌∷◌, length, max, Contains, Option, Some, None, refl, sym, ap, subst, ◌∙◌, arith}
 use Rattle.std.proofs.lemmas.Bool.{cases_lt}
 use Rattle.std.specs.List.{AllByRecursion, AllZip}
 use Rattle.wire_names.specs.rr.domain.DomainName.{DomainName}
@@ -7,8 +7,6 @@ use Rattle.wire_names.specs.declared.error.DecodeError.{DecodeError}
 use Rattle.wire_messages.specs.op.EdnsFields.{EdnsFields}
 use Rattle.wire_messages.specs.serialize.writing.Reply.{Reply, size_limit}
 use Rattle.wire_messages.specs.declared.op.header.Header.{Header}
-use Rattle.wire_messages.specs.declared.op.query.Query.{Query}
-use Rattle.wire_messages.specs.declared.protocol.Protocol.{Protocol}
 use Rattle.wire_messages.specs.declared.protocol.Protocol.TheVariants.{Udp}
 use Rattle.wire_reading.specs.serialize.reading.MessageReading.{Fault, Reads}
 use Rattle.wire_reading.specs.declared.op.message.Message.{Message}
@@ -20,23 +18,20 @@ use Rattle.hickory_base.specs.declared.zone_store.handler.ZoneHandler.{Ghosts}
 use Rattle.hickory_catalog.specs.requests.Alone.{OfZoneIsDecided, OneChain, OthersStay, ServedAlone, ApexesStay}
 use Rattle.hickory_catalog.specs.replies.DecodedReplies.{ErrorRepliesFit, RepliesTo, RequestRepliesFit, TransferRepliesFit}
 use Rattle.hickory_catalog.specs.replies.ReplyEdns.{reply_edns, with_high_code}
-use Rattle.hickory_catalog.specs.requests.Server.{Server, server_of}
+use Rattle.hickory_catalog.specs.requests.Server.{server_of}
 use Rattle.hickory_catalog.specs.replies.Signing.{Signer}
 use Rattle.hickory_catalog.specs.transfers.WholeTransfers.{TransferredAlone}
-use Rattle.hickory_catalog.specs.zones.Zones.{AreInOrder}
 use Rattle.hickory_catalog.specs.declared.catalog.Catalog.{Catalog}
-use Rattle.hickory_server.specs.server.Isolation.{IsToZone}
-use Rattle.hickory_server.specs.server.Ruling.{IsResponse, IsRuling, refusal, truncation, udp_limit}
-use Rattle.hickory_server.specs.server.ServedBy.{AreSent, IsBounded, RequestServed, ServedBy, refused, truncated, transferred, passed, short, response, request}
+use Rattle.hickory_server.specs.server.Ruling.{IsRuling, truncation, udp_limit}
+use Rattle.hickory_server.specs.server.ServedBy.{IsBounded, RequestServed, ServedBy, refused, truncated, transferred, passed, short, response, request}
 use Rattle.hickory_server.specs.server.ServedBy as by_rules
-use Rattle.hickory_server.specs.server.ServedLaws.{IsLetThrough, IsSent, HasNoReply, LetThroughSteps, NoReplyToResponses, OtherZonesStay, ServedAloneBy, WithinBothLimits}
-use Rattle.hickory_server.specs.server.Serving.{IsRequestOf, Step, handled}
+use Rattle.hickory_server.specs.server.ServedLaws.{IsSent, HasNoReply, LetThroughSteps, NoReplyToResponses, OtherZonesStay, ServedAloneBy, WithinBothLimits}
+use Rattle.hickory_server.specs.server.Serving.{Step, handled}
 use Rattle.hickory_server.specs.server.Serving as without
 use Rattle.hickory_server.specs.declared.server.answer.Answer.{Answer}
 use Rattle.hickory_server.specs.declared.server.answer.Answer.TheVariants as answers
 use Rattle.hickory_server.specs.declared.server.rules.Rules.{Rules}
 use Rattle.hickory_server.specs.declared.server.rules.Ruling.TheVariants.{Pass, Refuse, Transfer, Truncate}
-use Rattle.hickory_server.specs.declared.server.serve.Incoming.{Incoming}
 use Rattle.hickory_server.specs.declared.server.serve.Outcome.{Outcome}
 use Rattle.hickory_server.specs.declared.server.serve.Outcome.TheVariants as outcomes
 use Rattle.hickory_server.proofs.lemmas.server.Isolation.{of_zone_too}

@@ -1,5 +1,5 @@
 -- What is sent of replies.
-use Rattle.std.proofs.Common.{◌≡◌, ◌≤◌, ◌≢◌, ℕ, List, [], ◌∷◌, length, refl, arith}
+use Rattle.std.proofs.Common.{◌≤◌, ◌≢◌, ℕ, List, [], ◌∷◌, length, refl, arith}
 use Rattle.std.specs.List.{All, AllZip}
 use Rattle.wire_messages.specs.declared.protocol.Protocol.{Protocol}
 use Rattle.wire_messages.specs.declared.protocol.Protocol.TheVariants.{H3, Https, Quic, Tcp, Tls, Udp}

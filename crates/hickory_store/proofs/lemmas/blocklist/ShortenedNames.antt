@@ -1,5 +1,5 @@
 -- A wildcard above a name is found by shortening the name, label by label, to the root.
-use Rattle.std.proofs.Common.{◌≡◌, ℕ, ◌+◌, ◌<◌, ◌≤◌, Bool, true, false, List, [], ◌∷◌, ◌++◌, length, take, drop, refl, sym, ap, subst, ◌∙◌, arith, length-append, length-drop, append_assoc, ◌⊎◌, inl, inr}
+use Rattle.std.proofs.Common.{◌≡◌, ℕ, ◌+◌, ◌<◌, ◌≤◌, true, false, List, [], ◌∷◌, ◌++◌, length, take, drop, refl, sym, ap, subst, ◌∙◌, arith, length-append, length-drop, append_assoc, ◌⊎◌, inl, inr}
 use Rattle.std.specs.Prelude.{◌↔◌, IsTrue}
 use Rattle.std.proofs.lemmas.Bool.{false≢true, cases_lt}
 use Rattle.std.proofs.lemmas.List.{length-map, map-append, take-append-drop}
@@ -8,19 +8,6 @@ use Rattle.wire_names.specs.rr.domain.NameOrder.{SameName, Encloses, lower_label
 use Rattle.hickory_store.specs.blocklist.Entries.{wildcard_over}
 use Rattle.hickory_store.specs.blocklist.Blocked.{IsUnderWildcard}
 use Rattle.hickory_store.proofs.lemmas.blocklist.KeptNames.{has, has_entry, entry_has, has_alike, full, Beside}
-
-abbrev pub root : DomainName
-root = record { labels = []; is_fqdn = true }
-
-filled_by : (labels : List (List ℕ)) (mark : Bool) → mark ≡ true → ((let d : DomainName = record { labels = labels; is_fqdn = mark } in d) ≡ root → ⊥) → 0 < length labels
-filled_by [] mark e ne = absurd (ne (ap (λ (m : Bool). let d : DomainName = record { labels = []; is_fqdn = m } in d) e))
-filled_by (l ∷ labels) mark e ne = omega arith
-
-pub filled : (name : DomainName) → name.is_fqdn ≡ true → (name ≡ root → ⊥) → 0 < length name.labels
-filled name e ne = filled_by name.labels name.is_fqdn e ne
-
-pub emptied : (name : DomainName) → name ≡ root → length name.labels ≡ 0
-emptied name e = ap (λ (d : DomainName). length d.labels) e
 
 -- the name above has one label less
 pub one_less : (name next : DomainName) → next ≡ record name { labels = drop 1 name.labels } → 0 < length name.labels → length name.labels ≡ length next.labels + 1
@@ -86,7 +73,7 @@ module _ (bases : List DomainName) (name base next : DomainName) (shorter : next
   next_below : length next.labels < length name.labels
   next_below = omega (arith, ap length a.ends, length-append a.front base.labels, one_less base next shorter more)
 
-  -- the name above is a base, the one of the most labels
+  -- the name above is a base that has enough labels
   module _ (names : List DomainName) (beside : Beside names bases) (hit : has bases next ≡ true) (depth : ℕ) where
     reached : depth ≤ length next.labels → IsUnderWildcard names depth name
     reached deep =
@@ -99,16 +86,24 @@ module _ (bases : List DomainName) (name base next : DomainName) (shorter : next
           below = next_below;
         }
 
-    deep_by : (u : IsUnderWildcard names depth name) → (length next.labels < length u.base) ⊎ (length u.base ≤ length next.labels) → depth ≤ length next.labels
-    deep_by u (inl lt) = absurd (false≢true (sym (none u.base u.ends (omega (arith, one_less base next shorter more)) u.below) ∙ beside u.base ∙ entry_has names (wildcard_over u.base) u.listed))
-    deep_by u (inr ge) = omega (arith, u.deep)
+    pub under_at : depth ≤ length next.labels → IsTrue true ↔ IsUnderWildcard names depth name
+    under_at deep = (λ t. reached deep, λ u. refl)
 
-    pub under_at : (b : Bool) → (IsTrue b ↔ (depth ≤ length next.labels)) → IsTrue b ↔ IsUnderWildcard names depth name
-    under_at b deep = (λ t. reached (deep.0 t), λ u. deep.1 (deep_by u (cases_lt (length next.labels) (length u.base))))
-
--- no wildcard is above the name
-pub under_none : (names bases : List DomainName) (name : DomainName) (depth n : ℕ) → Beside names bases → n ≡ 0 → NoneFrom bases name n → IsTrue false ↔ IsUnderWildcard names depth name
-under_none names bases name depth n beside e none = (
+-- no wildcard of enough labels is above the name
+pub under_none : (names bases : List DomainName) (name : DomainName) (depth n : ℕ) → Beside names bases → n ≤ depth → NoneFrom bases name n → IsTrue false ↔ IsUnderWildcard names depth name
+under_none names bases name depth n beside few none = (
   λ t. absurd (false≢true t),
-  λ u. absurd (false≢true (sym (none u.base u.ends (omega arith) u.below) ∙ beside u.base ∙ entry_has names (wildcard_over u.base) u.listed)),
+  λ u. absurd (false≢true (sym (none u.base u.ends (omega (arith, u.deep)) u.below) ∙ beside u.base ∙ entry_has names (wildcard_over u.base) u.listed)),
 )
+
+-- the name has too few labels
+pub under_short : (names bases : List DomainName) (name : DomainName) (depth : ℕ) → Beside names bases → length name.labels ≤ depth → IsTrue false ↔ IsUnderWildcard names depth name
+under_short names bases name depth beside few = under_none names bases name depth (length name.labels) beside few (none_at_first bases name name refl)
+
+none_of : (bases : List DomainName) (name : DomainName) → length bases ≡ 0 → has bases name ≡ false
+none_of [] name e = refl
+none_of (b ∷ bases) name e = absurd (omega (arith, e))
+
+-- there are no wildcards
+pub under_nothing : (names bases : List DomainName) (name : DomainName) (depth : ℕ) → Beside names bases → length bases ≡ 0 → IsTrue false ↔ IsUnderWildcard names depth name
+under_nothing names bases name depth beside e = under_none names bases name depth 0 beside (omega arith) (λ labels ends long short. none_of bases (full labels) e)

@@ -1,5 +1,5 @@
 -- Records of which each counts once: what the numbers tell, and that no two of those that are kept are the same.
-use Rattle.std.proofs.Common.{◌≡◌, ◌∙◌, ap, sym, refl, subst, ℕ, Bool, true, false, cond, not, ◌&&◌, ◌||◌, ◌++◌, [], ◌∷◌, List}
+use Rattle.std.proofs.Common.{◌≡◌, ◌∙◌, ap, sym, refl, ℕ, Bool, true, false, cond, not, ◌&&◌, ◌||◌, ◌++◌, [], ◌∷◌, List}
 use Rattle.std.specs.Prelude.{◌↔◌, IsTrue, fold, nat_eq}
 use Rattle.std.specs.Hash.DefaultHasher as sip
 use Rattle.std.specs.List.{AllByRecursion, list_any}

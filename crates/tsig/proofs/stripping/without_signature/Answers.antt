@@ -1,5 +1,5 @@
 -- What is found of a message is taken from it.
-use Rattle.std.proofs.Common.{◌≡◌, arith, rules}
+use Rattle.std.proofs.Common.{arith, rules}
 use Rattle.tsig.proofs.Strips.{stripped_fault, stripped_none, stripped_signed}
 use Rattle.tsig.proofs.stripping.without_signature.Goals as goal
 

@@ -1,5 +1,6 @@
--- Which numbers and lengths the fields of a record hold (RFC 1035 sections 3.2.1, 3.3 and 3.4), and what else its data
--- have to be, so that a record reads back as itself.
+-- Which numbers and lengths the fields of a record hold (RFC 1035 sections 3.2.1, 3.3 and 3.4; of AAAA RFC 3596
+-- section 2.2, of OPT RFC 6891 section 6.1.2, of TSIG RFC 8945 section 4.2), and what else its data have to be, so that
+-- a record reads back as itself.
 use Rattle.std.specs.Prelude.{◌≢◌, ◌<◌, ◌^◌, [], length}
 use Rattle.std.specs.List.{AllByRecursion}
 use Rattle.wire_messages.specs.Numbers.{type_a, type_aaaa, type_cname, type_mx, type_ns, type_null, type_opt, type_ptr, type_soa, type_tsig, type_txt}
@@ -23,14 +24,15 @@ IsInRange (rdata.Update0 code) = code < 2 ^ 16
 IsInRange (rdata.Unknown code octets) = code < 2 ^ 16
 IsInRange content = Unit {0}
 
--- the same of a record
+-- each number of a record is one that its field holds, and those of its data are
 pub record IsRecordInRange (r : Record RData) : Type 0 where
   pub class : r.dns_class < 2 ^ 16
   pub ttl : r.ttl < 2 ^ 32
   pub rdata : IsInRange r.rdata
 
 -- Names in the data are fully qualified; octets without a form stand only under types that have none; and there are no
--- octets at all only as data of an update or as an OPT without options.
+-- octets at all only as data of an update, of any type but OPT and TSIG (RFC 2136 section 2.4), or as an OPT without
+-- options.
 abbrev pub IsReadAsItsType : RData → Type 0
 IsReadAsItsType (rdata.NS name) = IsFullyQualified name
 IsReadAsItsType (rdata.CNAME name) = IsFullyQualified name

@@ -72,9 +72,9 @@ pub record FormAt (floor : ℕ) (bytes : List ℕ) (place : ℕ) (r : Record RDa
   pub rdata : DataAt floor bytes (middle + 10) r.rdata next
   pub counted : next ≡ middle + 10 + len
 
--- Data that the form of their type reads as themselves where they stand: each number in its range, names fully qualified,
--- octets without a form only for types that have none, and no octets at all only as data of an update or as an OPT
--- without options.
+-- Data that the form of their type reads as themselves where they stand: each number in its range, names fully
+-- qualified, octets without a form only for types that have none, and no octets at all only as data of an update, of
+-- any type but OPT and TSIG, or as an OPT without options.
 abbrev pub IsFormed : RData → Type 0
 IsFormed content = IsInRange content × IsReadAsItsType content
 

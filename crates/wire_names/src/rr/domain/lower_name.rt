@@ -13,7 +13,7 @@ ghost use Rattle.wire_names.specs.serialize.layout.Bytes.{AreBytes};
 
 use crate::rr::domain::name::Name;
 use crate::rr::domain::order_key::{
-    escaped_len, make_order_key, set_plain_key, shared_len, wire_len,
+    escaped_len, make_order_key, set_order_key, set_plain_key, shared_len, wire_len,
 };
 use crate::values::same_bytes::are_same;
 use crate::values::wire::{ShortBytes, Wire};
@@ -21,6 +21,7 @@ use std::alloc::{AllocError, Global};
 use std::cmp::Ordering;
 use std::hash::{Hash, Hasher};
 use std::marker::Model;
+use std::mem::replace;
 
 /// A domain name whose labels are in lower case, as a key of zones and records.
 ///
@@ -85,19 +86,30 @@ impl LowerName {
     fn set_short(&mut self, name: &Name) -> bool
         ensures { IsTrue result → self.new ≡ lower_name name.now }
     {
-        if self.name.set_lowered(name) && set_plain_key(&mut self.key, self.name.as_wire()) {
+        if !self.name.set_lowered(name) {
+            return false;
+        }
+        if set_plain_key(&mut self.key, self.name.as_wire()) {
             return true;
         }
         *self = LowerName::root();
         false
     }
 
-    /// Puts any name in lower case in the place of this one.
+    /// Puts any name in lower case in the place of this one, in the memory that it has where that is enough.
+    // speed: served, an address of 120 labels
     #[inline(never)]
     fn set_any(&mut self, alloc: Global, name: &Name) -> Result<(), AllocError>
         ensures { OnOk result (self.new ≡ lower_name name.now) }
     {
-        *self = LowerName::new(alloc, name)?;
+        let LowerName {
+            name: mut own,
+            mut key,
+        } = replace(self, LowerName::root());
+        own.set_any_lowered(alloc, name)?;
+        set_order_key(&mut key, alloc, own.as_wire())?;
+        let lowered = LowerName { name: own, key };
+        *self = lowered;
         Ok(())
     }
 

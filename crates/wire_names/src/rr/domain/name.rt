@@ -1,6 +1,6 @@
 //! Domain names.
 
-ghost use Rattle.std.specs.Prelude.{◌≡◌, ◌↔◌, ℕ, [], length, drop, IfOk, OnOk, true, IsTrue};
+ghost use Rattle.std.specs.Prelude.{◌≡◌, ◌↔◌, ℕ, [], length, drop, IfOk, OnOk, true, false, IsTrue};
 ghost use Rattle.std.specs.Ordering.{eq_by_cmp, as_partial_cmp};
 ghost use Rattle.std.specs.Cmp.{eq_by_cmp_equiv, partial_equiv_from_equiv, partial_order_from_total};
 ghost use Rattle.std.specs.Cmp.Rules.{comparing};
@@ -178,13 +178,24 @@ impl Name {
     /// Puts a name with its labels in lower case in the place of this, where both are short. Returns whether it did.
     #[inline(always)]
     pub(crate) fn set_lowered(&mut self, name: &Name) -> bool
-        ensures { IsTrue result → self.new ≡ lower_name name.now }
+        ensures done { IsTrue result → self.new ≡ lower_name name.now }
+        ensures kept { result ≡ false → self.new ≡ self.old }
     {
         if !self.wire.set_lowered(&name.wire) {
             return false;
         }
         self.is_fqdn = name.is_fqdn;
         true
+    }
+
+    /// Puts any name with its labels in lower case in the place of this. Where memory is refused, this one stays.
+    pub(crate) fn set_any_lowered(&mut self, alloc: Global, name: &Name) -> Result<(), AllocError>
+        ensures { OnOk result (self.new ≡ lower_name name.now) }
+    {
+        let is_qualified = name.is_fqdn;
+        self.wire.set_any_lowered(alloc, &name.wire)?;
+        self.is_fqdn = is_qualified;
+        Ok(())
     }
 
     /// A copy with its labels in lower case.

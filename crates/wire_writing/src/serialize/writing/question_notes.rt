@@ -19,21 +19,22 @@ struct FullName<'n> {
 }
 
 /// The name at the front, if it stands there in full.
+// speed: served, an address of 120 labels
 fn full_name(question: &[u8]) -> Option<FullName<'_>>
     ensures { IfSome result (λ name. StandsInFull question.now name.wire.now name.count) }
 {
+    let limit = question.len().min(MAX_WIRE_LEN);
     let mut place = 0;
     let mut count = 0;
-    while place < question.len() && place < MAX_WIRE_LEN {
+    while place < limit {
         let len = question[place];
-        if len == 0 {
-            return Some(FullName {
-                wire: &question[..place],
-                count,
-            });
-        }
-        if len >= 64 {
-            return None;
+        // One test for both, since nearly all bytes that it sees begin a label.
+        if (len == 0) | (len >= 64) {
+            if len > 0 {
+                return None;
+            }
+            let wire = &question[..place];
+            return Some(FullName { wire, count });
         }
         place += 1 + usize::from(len);
         count += 1;

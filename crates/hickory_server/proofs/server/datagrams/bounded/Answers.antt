@@ -1,4 +1,4 @@
-use Rattle.std.proofs.Common.{◌≡◌, ◌≤◌, ◌<◌, Result, Ok, Err, IfOk, List, ℕ, length, rules, arith}
+use Rattle.std.proofs.Common.{◌≤◌, ◌<◌, Result, Ok, Err, IfOk, List, ℕ, length, rules, arith}
 use Rattle.hickory_server.specs.server.Fitted.{IsFitted}
 use Rattle.hickory_server.specs.server.ServedBy.{IsBounded}
 use Rattle.hickory_server.proofs.server.datagrams.bounded.Goals as goal

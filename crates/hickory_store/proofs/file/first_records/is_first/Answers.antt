@@ -1,9 +1,9 @@
 -- The set has one record more, or had the same.
-use Rattle.std.proofs.Common.{◌≡◌, Bool, cond, not, subst, true}
+use Rattle.std.proofs.Common.{◌≡◌, cond, not, subst, true}
 use Rattle.std.specs.HashSet.{contains}
 use Rattle.wire_messages.specs.declared.rr.rdata.RData.{RData}
 use Rattle.wire_messages.specs.declared.rr.record.Record.{Record}
-use Rattle.hickory_store.specs.file.FirstRecords.{digested, same_digested}
+use Rattle.hickory_store.specs.file.FirstRecords.{same_digested}
 use Rattle.hickory_store.specs.declared.file.digests.Digested.{Digested}
 use Rattle.hickory_store.proofs.lemmas.file.FirstRecords.{met_more}
 use Rattle.hickory_store.proofs.file.first_records.is_first.Goals as goal

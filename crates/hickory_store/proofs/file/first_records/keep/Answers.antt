@@ -1,5 +1,5 @@
 -- The record is kept where it is the first.
-use Rattle.std.proofs.Common.{◌∙◌, ◌++◌, ◌∷◌, [], List, subst, sym}
+use Rattle.std.proofs.Common.{◌∙◌, List, subst, sym}
 use Rattle.wire_messages.specs.declared.rr.rdata.RData.{RData}
 use Rattle.wire_messages.specs.declared.rr.record.Record.{Record}
 use Rattle.hickory_store.specs.file.FirstRecords.{Knows}

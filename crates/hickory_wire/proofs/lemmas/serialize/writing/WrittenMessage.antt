@@ -10,9 +10,9 @@ use Rattle.wire_reading.specs.serialize.layout.WholeMessage.{MessageAt}
 use Rattle.wire_reading.specs.serialize.reading.MessageReading.{Reads}
 use Rattle.wire_messages.specs.serialize.layout.RecordLayout.{RecordAt}
 use Rattle.wire_messages.specs.serialize.writing.Reply.{Reply, opt_record}
-use Rattle.wire_writing.specs.serialize.writing.Writing.{PutsAll, ListWritten, ListFront, ListsWritten, Fronts, fronts_list, ending_of, Written, header_and_questions, written_header}
+use Rattle.wire_writing.specs.serialize.writing.Writing.{PutsAll, ListWritten, ListFront, ListsWritten, Fronts, ending_of, Written, header_and_questions, written_header}
 use Rattle.wire_writing.specs.declared.serialize.writing.record_encoder.Ending.{Ending}
-use Rattle.wire_writing.specs.serialize.writing.Writing.ListsWritten.{none_left, next_list, stuck_list}
+use Rattle.wire_writing.specs.serialize.writing.Writing.ListsWritten.{none_left, next_list}
 use Rattle.wire_messages.specs.declared.op.query.Query.{Query}
 use Rattle.wire_messages.specs.declared.rr.rdata.RData.{RData}
 use Rattle.wire_messages.specs.declared.rr.record.Record.{Record}

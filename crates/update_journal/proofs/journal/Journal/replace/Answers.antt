@@ -1,5 +1,5 @@
 -- Where the disk did not fail, the entries were taken out, and no more.
-use Rattle.std.proofs.Common.{ℕ, List, []}
+use Rattle.std.proofs.Common.{[]}
 use Rattle.update_journal.proofs.Steps.{cleared_at_least, on_err}
 use Rattle.update_journal.proofs.journal.Journal.replace.Goals as goal
 

@@ -7,7 +7,7 @@ use Rattle.std.specs.List.{AllByRecursion}
 use Rattle.wire_messages.specs.serialize.writing.RecordSize.{full_size}
 use Rattle.wire_messages.specs.serialize.writing.Reply.{Reply}
 use Rattle.wire_writing.specs.serialize.writing.WholeReply.{HasForm, total_size, FitsWhole, IsWhole}
-use Rattle.wire_writing.specs.serialize.writing.Writing.{Puts, PutsAll, ListWritten, ListFront, ListsWritten, Fronts, fronts_list, is_any_cut, ending_of, Written, GetsStuck, header_and_questions}
+use Rattle.wire_writing.specs.serialize.writing.Writing.{PutsAll, ListWritten, ListFront, ListsWritten, Fronts, ending_of, Written, GetsStuck}
 use Rattle.wire_writing.specs.declared.serialize.writing.record_encoder.Ending.TheVariants.{Stuck}
 use Rattle.wire_writing.specs.serialize.writing.Writing.ListsWritten.{none_left, next_list, stuck_list}
 use Rattle.wire_names.specs.declared.error.ProtoError.{ProtoError}

@@ -1,10 +1,8 @@
 use Rattle.std.proofs.Common.{◌≡◌, ◌∙◌, ap, rules}
-use Rattle.std.specs.Option.{option_copied}
 use Rattle.std.specs.Iterator.Adapters.{once_item}
 use Rattle.std.specs.Slice.Iter.{iter_rest}
 use Rattle.std.proofs.Common.{None}
-use Rattle.wire_messages.specs.serialize.writing.Reply.{Reply}
-use Rattle.hickory_base.specs.responses.Responses.{header_of, lent_reply}
+use Rattle.hickory_base.specs.responses.Responses.{header_of}
 use Rattle.hickory_base.proofs.lemmas.ResultMaps.{if_ok_map}
 use Rattle.hickory_base.proofs.lemmas.responses.LentReplies.{added_so, added_so_or_not, given_by_empty, given_by_slice, reply_of_parts}
 use Rattle.hickory_base.proofs.responses.response_handler.ResponseHandler.send_lent.Goals as goal

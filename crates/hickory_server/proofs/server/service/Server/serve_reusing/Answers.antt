@@ -1,4 +1,4 @@
-use Rattle.std.proofs.Common.{◌≡◌, ◌≤◌, length, rules, refl}
+use Rattle.std.proofs.Common.{◌≤◌, length, rules, refl}
 use Rattle.std.specs.Net.Socket.{socket_ip}
 use Rattle.access_control.specs.Access.{IsAllowed}
 use Rattle.hickory_server.specs.server.Ruling.{IsResponse}

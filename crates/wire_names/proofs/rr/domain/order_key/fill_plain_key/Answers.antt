@@ -44,3 +44,13 @@ returns c = λ t.
     let begin : 0 ≡ c.loop-place.start = omega (arith, c.loop-place.invariant.exact, c.loop-place-test.false) in
     ap (λ (n : ℕ). drop n c.loop-place.room) begin ∙ c.loop-place.invariant.made.made
     ∙ ap order_key (ap (λ (n : ℕ). take n ls) all ∙ take_all (length ls) ls (omega arith))
+
+pub put_plain-requires-clause-some : goal.put_plain-requires-clause-some
+put_plain-requires-clause-some c =
+    let i : ℕ = c.loop-place.invariant.made.count in
+    let ls : List (List ℕ) = cut c.args.wire.now in
+    let a : Advance c.args.wire.now i c.loop-place.place = advance c.args.wire.now c.requires.wire i c.loop-place.place c.loop-place.invariant.made.at c.loop-place-test.true in
+    let s : Site c.args.wire.now c.loop-place.place (get_or ls i []) = site c.args.wire.now c.requires.wire i c.loop-place.place a.below c.loop-place.invariant.made.at in
+    let text : take (c.loop-place.place + 1 + c.from.result - (c.loop-place.place + 1)) (drop (c.loop-place.place + 1) c.args.wire.now) ≡ get_or ls i [] =
+    ap (λ (n : ℕ). take n (drop (c.loop-place.place + 1) c.args.wire.now)) (omega (arith, c.from.ensures)) ∙ s.label in
+    omega (arith, (c.requires.wire.are.each i [] a.below).0, ap length text)

@@ -10,17 +10,19 @@ loop-place-preserved c =
     let place = c.loop-place.place in
     let question = c.args.question.now in
     let count = get_or question place 0 in
+    let inside : place < length question = omega (arith, c.min-limit.ensures, c.loop-place-test.true) in
     let low : 0 < count = search rules in
     let high : count < 64 = search rules in
     let next : place + 1 + count ≡ place + (1 + c.from.result) = omega (arith, c.from.ensures) in
     record {
-      so_far = λ fits. subst (λ p. StandsSoFar question p (c.loop-place.count + 1)) next (so_far_more question place c.loop-place.count (c.loop-place.invariant.so_far (omega arith)) low high (omega (arith, next)));
-      small = omega (arith, high, c.if-place-lt-MAX_WIRE_LEN.true);
+      so_far = λ fits. subst (λ p. StandsSoFar question p (c.loop-place.count + 1)) next (so_far_more question place c.loop-place.count (c.loop-place.invariant.so_far (omega (arith, inside))) low high (omega (arith, next)));
+      small = omega (arith, high, c.min-limit.ensures, c.loop-place-test.true);
       few = omega (arith, c.loop-place.invariant.few);
     }
 
-pub returns-then-len-eq0 : goal.returns-then-len-eq0
-returns-then-len-eq0 c =
+pub returns-then-len : goal.returns-then-len
+returns-then-len c =
     let zero_here : get_or c.args.question.now c.loop-place.place 0 ≡ 0 = search rules in
-    let below : c.loop-place.place < length c.args.question.now = search rules in
-    so_far_ends c.args.question.now c.loop-place.place c.loop-place.count (c.loop-place.invariant.so_far (omega arith)) below (search rules) zero_here
+    let below : c.loop-place.place < length c.args.question.now = omega (arith, c.min-limit.ensures, c.loop-place-test.true) in
+    let small : c.loop-place.place < 255 = omega (arith, c.min-limit.ensures, c.loop-place-test.true) in
+    so_far_ends c.args.question.now c.loop-place.place c.loop-place.count (c.loop-place.invariant.so_far (omega (arith, below))) below small zero_here

@@ -7,8 +7,8 @@ use Rattle.wire_names.proofs.lemmas.rr.domain.WireForm.{cut-wire}
 use Rattle.wire_names.proofs.lemmas.rr.domain.SameNames.{lower_labels-twice}
 use Rattle.wire_names.proofs.rr.domain.lower_name.LowerName.set_short.Goals as goal
 
-pub invariant_of-self : goal.invariant_of-self
-invariant_of-self c =
+pub invariant_of-self-then-set_plain_key : goal.invariant_of-self-then-set_plain_key
+invariant_of-self-then-set_plain_key c =
     let whole : c.set_lowered.new.self ≡ lower_name c.args.name.now = search rules in
     let e : c.set_lowered.new.self.labels ≡ lower_labels c.args.name.now.labels = ap (λ (d : DomainName). d.labels) whole in
     let key : wire_bytes c.set_plain_key.new.key ≡ order_key (cut c.as_wire.result.now) = search rules in (

@@ -11,8 +11,8 @@ invariant_of-self-2 c =
     let lowered : wire_bytes c.set_lowered.new.self ≡ map to_ascii_lowercase (wire_bytes c.name.inside.wire) = search rules in
     (lowered_wire _ _ c.name.invariant lowered).0
 
-pub returns : goal.returns
-returns c = λ t.
+pub returns-clause-done : goal.returns-clause-done
+returns-clause-done c = λ t.
     let lowered : wire_bytes c.set_lowered.new.self ≡ map to_ascii_lowercase (wire_bytes c.name.inside.wire) = search rules in
     ap (λ (ls : List (List ℕ)). let d : DomainName = record { labels = ls; is_fqdn = c.name.inside.is_fqdn } in d) (lowered_wire _ _ c.name.invariant lowered).1
     ∙ ap lower_name c.name.view_is
