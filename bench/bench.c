@@ -28,6 +28,7 @@ enum call {
     ANSWER_REQUEST,
     ANSWER_TRANSFER,
     SERVE,
+    SERVE_OVER_TCP,
     SERVE_FILTERED,
     UPDATE,
     FIND_ZONE,
@@ -44,6 +45,7 @@ struct side {
     uint64_t (*answer_request)(const uint8_t *, size_t, const uint8_t *, size_t, uint64_t);
     uint64_t (*answer_transfer)(const uint8_t *, size_t, const uint8_t *, size_t, uint64_t);
     uint64_t (*serve)(const uint8_t *, size_t, const uint8_t *, size_t, uint64_t);
+    uint64_t (*serve_over_tcp)(const uint8_t *, size_t, const uint8_t *, size_t, uint64_t);
     uint64_t (*serve_filtered)(const uint8_t *, size_t, const uint8_t *, size_t, const uint8_t *, size_t, uint64_t);
     uint64_t (*update)(const uint8_t *, size_t, const uint8_t *, size_t, uint64_t);
     uint64_t (*find_zone)(const uint8_t *, size_t, const uint8_t *, size_t, uint64_t);
@@ -54,11 +56,11 @@ struct side {
 
 static const struct side sides[] = {
     {"ours", bench_calls_read_request, bench_calls_read_message, bench_calls_write_message,
-     bench_calls_answer_request, bench_calls_answer_transfer, bench_calls_serve, bench_calls_serve_filtered, bench_calls_update,
-     bench_calls_find_zone, bench_calls_allow, bench_calls_read_blocklist, bench_calls_is_blocked},
+     bench_calls_answer_request, bench_calls_answer_transfer, bench_calls_serve, bench_calls_serve_over_tcp, bench_calls_serve_filtered,
+     bench_calls_update, bench_calls_find_zone, bench_calls_allow, bench_calls_read_blocklist, bench_calls_is_blocked},
     {"peer", peer_read_request, peer_read_message, peer_write_message, peer_answer_request, peer_answer_transfer,
-     NULL, NULL, peer_update, peer_find_zone, NULL, NULL, peer_is_blocked},
-    {"ldns", NULL, ldns_read_message, ldns_write_message, NULL, NULL, NULL, NULL, NULL, NULL, NULL, NULL, NULL},
+     NULL, NULL, NULL, peer_update, peer_find_zone, NULL, NULL, peer_is_blocked},
+    {"ldns", NULL, ldns_read_message, ldns_write_message, NULL, NULL, NULL, NULL, NULL, NULL, NULL, NULL, NULL, NULL},
 };
 
 #define SIDES (sizeof sides / sizeof sides[0])
@@ -98,6 +100,8 @@ static int has_call(const struct side *side, const struct job *job)
         return side->answer_transfer != NULL && (job->size < 100000 || strcmp(side->name, "ours") == 0);
     case SERVE:
         return side->serve != NULL;
+    case SERVE_OVER_TCP:
+        return side->serve_over_tcp != NULL;
     case SERVE_FILTERED:
         return side->serve_filtered != NULL;
     case UPDATE:
@@ -136,6 +140,9 @@ static uint64_t run_or_refuse(const struct side *side, const struct job *job, ui
         break;
     case SERVE:
         answer = side->serve(in->at, in->len, second->at, second->len, rounds);
+        break;
+    case SERVE_OVER_TCP:
+        answer = side->serve_over_tcp(in->at, in->len, second->at, second->len, rounds);
         break;
     case SERVE_FILTERED: {
         struct bytes list = blocked_names(job->number);
@@ -417,7 +424,7 @@ static void measure_replies(void)
     measure("reply in place, Refused", 1, ANSWER_REQUEST, zone(1), address_query("www.example.net."), 0);
 }
 
-// Datagrams, as programs serve them, by a zone of 1,004 sets that answers as RFC 1034 says.
+// Messages, as programs serve them: datagrams, and messages of a connection, by a zone of 1,004 sets that answers as RFC 1034 says.
 static void measure_served(void)
 {
     measure("served, an address", 1004, SERVE, standard_zone(), address_query("h500.example.com."), 0);
@@ -426,6 +433,8 @@ static void measure_served(void)
     measure("served, NXDomain", 1004, SERVE, standard_zone(), address_query("none.example.com."), 0);
     measure("served, a wildcard", 1004, SERVE, standard_zone(), address_query("x.w.example.com."), 0);
     measure("served, a referral", 1004, SERVE, standard_zone(), address_query("www.c.example.com."), 0);
+    measure("served over TCP, an address", 1004, SERVE_OVER_TCP, standard_zone(), address_query("h500.example.com."), 0);
+    measure("served over TCP, NXDomain", 1004, SERVE_OVER_TCP, standard_zone(), address_query("none.example.com."), 0);
     measure("served, an address past a block list", 1004, SERVE_FILTERED, standard_zone(), address_query("h500.example.com."), 1000);
 }
 

@@ -15,6 +15,7 @@ uint64_t bench_calls_write_message(const uint8_t *bytes, size_t len, uint16_t li
 uint64_t bench_calls_answer_request(const uint8_t *zone, size_t zone_len, const uint8_t *bytes, size_t len, uint64_t rounds);
 uint64_t bench_calls_answer_transfer(const uint8_t *zone, size_t zone_len, const uint8_t *bytes, size_t len, uint64_t rounds);
 uint64_t bench_calls_serve(const uint8_t *zone, size_t zone_len, const uint8_t *bytes, size_t len, uint64_t rounds);
+uint64_t bench_calls_serve_over_tcp(const uint8_t *zone, size_t zone_len, const uint8_t *bytes, size_t len, uint64_t rounds);
 uint64_t bench_calls_serve_filtered(const uint8_t *list, size_t list_len, const uint8_t *zone, size_t zone_len, const uint8_t *bytes, size_t len,
                                     uint64_t rounds);
 uint64_t bench_calls_update(const uint8_t *zone, size_t zone_len, const uint8_t *updates, size_t len, uint64_t rounds);

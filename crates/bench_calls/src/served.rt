@@ -1,4 +1,4 @@
-//! Datagrams served as programs serve them: a server reads each in the place of the one before it, its zones answer as
+//! Messages served as programs serve them: a server reads each in the place of the one before it, its zones answer as
 //! RFC 1034 says, and the replies are made in the memory of those before.
 
 use crate::WRONG;
@@ -35,13 +35,14 @@ fn measured_serve<H: ZoneHandler>(
     server: &mut SignedServer<NoKeys, H>,
     kept: &mut Items<Octets>,
     bytes: &[u8],
+    protocol: Protocol,
     rounds: u64,
 ) -> Option<u64> {
     let source = source();
     let mut total = 0u64;
     for _ in 0..rounds {
         let spare = mem::replace(kept, Items::new(alloc));
-        match server.serve_reusing(alloc, bytes, source, Protocol::Udp, 0, spare) {
+        match server.serve_reusing(alloc, bytes, source, protocol, 0, spare) {
             Ok(Answer::Replies(replies)) => {
                 total = total.wrapping_add(total_len(&replies));
                 *kept = replies;
@@ -61,32 +62,56 @@ fn server<H: ZoneHandler>(
     SignedServer::new(alloc, server, Keys::new(alloc)).ok()
 }
 
-/// Serves a datagram, in each round anew, by the handlers of this zone.
+/// Serves a message, in each round anew, by the handlers of this zone.
 fn serve_rounds<H: ZoneHandler>(
     alloc: Global,
     catalog: Catalog<NoKeys, H>,
     bytes: &[u8],
+    protocol: Protocol,
     rounds: u64,
 ) -> Option<u64> {
     let mut server = server(alloc, catalog)?;
     let mut kept = Items::new(alloc);
-    let total = measured_serve(alloc, &mut server, &mut kept, bytes, rounds);
+    let total = measured_serve(alloc, &mut server, &mut kept, bytes, protocol, rounds);
     drop(kept);
     drop(server);
     total
 }
 
-/// Serves a datagram, in each round anew, by the zone of these records.
-fn serve_zone(alloc: Global, zone: &[u8], bytes: &[u8], rounds: u64) -> Option<u64> {
+/// Serves a message, in each round anew, by the zone of these records.
+fn serve_zone(
+    alloc: Global,
+    zone: &[u8],
+    bytes: &[u8],
+    protocol: Protocol,
+    rounds: u64,
+) -> Option<u64> {
     let (origin, zone) = authoritative_zone(alloc, zone)?;
-    serve_rounds(alloc, catalog(alloc, origin, zone)?, bytes, rounds)
+    serve_rounds(
+        alloc,
+        catalog(alloc, origin, zone)?,
+        bytes,
+        protocol,
+        rounds,
+    )
 }
 
 /// Serves a datagram by a zone, whose records are the answers of messages, each behind its length; answers how many
 /// bytes all replies had.
 #[unsafe(no_mangle)]
 pub extern "C" fn bench_calls_serve(alloc: Global, zone: &[u8], bytes: &[u8], rounds: u64) -> u64 {
-    serve_zone(alloc, zone, bytes, rounds).unwrap_or(WRONG)
+    serve_zone(alloc, zone, bytes, Protocol::Udp, rounds).unwrap_or(WRONG)
+}
+
+/// Serves a message of a connection as `bench_calls_serve` does a datagram.
+#[unsafe(no_mangle)]
+pub extern "C" fn bench_calls_serve_over_tcp(
+    alloc: Global,
+    zone: &[u8],
+    bytes: &[u8],
+    rounds: u64,
+) -> u64 {
+    serve_zone(alloc, zone, bytes, Protocol::Tcp, rounds).unwrap_or(WRONG)
 }
 
 /// The chain of a zone and of a list of blocked names, which is consulted about what the zone answers.
@@ -134,7 +159,7 @@ fn serve_filtered(
     let list = consulted_list(alloc, list)?;
     let (origin, zone) = authoritative_zone(alloc, zone)?;
     let catalog = filtered_catalog(alloc, origin, zone, list)?;
-    serve_rounds(alloc, catalog, bytes, rounds)
+    serve_rounds(alloc, catalog, bytes, Protocol::Udp, rounds)
 }
 
 /// Serves a datagram by a zone, whose records are the answers of messages, each behind its length, and a list of
