@@ -19,7 +19,7 @@ returns-then-contains c =
     let hit : c.contains.result ≡ true = c.if-contains.true in
     let more : 0 < length c.loop.base.labels = omega (arith, c.loop.invariant.counted) in
     let deep : c.args.depth ≤ length c.remove_first_label.new.self.labels =
-        omega (arith, c.loop.invariant.counted, one_less c.loop.base c.remove_first_label.new.self c.remove_first_label.ensures more) in
+    omega (arith, c.loop.invariant.counted, one_less c.loop.base c.remove_first_label.new.self c.remove_first_label.ensures more) in
     subst (λ names. IsTrue true ↔ IsUnderWildcard names c.args.depth c.args.name.now) c.self.view_is
     (under_at c.self.inside.wildcard_bases.keys c.args.name.now c.loop.base c.remove_first_label.new.self c.remove_first_label.ensures c.loop.invariant.above more c.loop.invariant.none
     c.self.inside.names.keys c.self.invariant.beside (sym c.contains.ensures ∙ hit) c.args.depth deep)
