@@ -9,7 +9,7 @@ use Rattle.hickory_store.specs.blocklist.BlockAnswers.{Blocklist}
 use Rattle.name_lists.specs.Adding.{AddsList}
 use Rattle.name_lists.specs.Counts.{Counts}
 use Rattle.hickory_catalog.specs.declared.catalog.Catalog.{Catalog}
-use Rattle.served_zones.specs.ServedZones.{AddsLists, AreLoaded, Chain, IsLoadedAs}
+use Rattle.served_zones.specs.ServedZones.{AddsLists, AreLoaded, Chain, IsEmptyList, IsLoadedAs}
 use Rattle.served_zones.specs.ServedZones as served
 use Rattle.served_zones.specs.declared.parents.Loaded.{Loaded}
 use Rattle.sqlite_disk.specs.declared.Disk.{Ghosts as DiskGhosts}

@@ -1,5 +1,5 @@
 -- Which zones take updates, and by which keys and rules.
-use Rattle.std.specs.Prelude.{◌≢◌, [], ℕ, All, Bool, IsTrue, List, is_some}
+use Rattle.std.specs.Prelude.{◌≡◌, ◌≢◌, [], ℕ, All, Bool, IsTrue, List, is_some}
 use Rattle.std.specs.List.{list_any}
 use Rattle.update_policy.specs.RuleTexts.{IsRuleText}
 use Rattle.tsig.specs.Keys.{key_of}
