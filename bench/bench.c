@@ -424,7 +424,8 @@ static void measure_replies(void)
     measure("reply in place, Refused", 1, ANSWER_REQUEST, zone(1), address_query("www.example.net."), 0);
 }
 
-// Messages, as programs serve them: datagrams, and messages of a connection, by a zone of 1,004 sets that answers as RFC 1034 says.
+// Messages, as programs serve them: datagrams, and messages of a connection. The zone has 1,004 sets and answers as
+// RFC 1034 says.
 static void measure_served(void)
 {
     measure("served, an address", 1004, SERVE, standard_zone(), address_query("h500.example.com."), 0);
