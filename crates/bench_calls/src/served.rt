@@ -114,7 +114,7 @@ pub extern "C" fn bench_calls_serve_over_tcp(
     serve_zone(alloc, zone, bytes, Protocol::Tcp, rounds).unwrap_or(WRONG)
 }
 
-/// The chain of a zone and of a list of blocked names, which is consulted about what the zone answers.
+/// The chain of a zone and of a list of blocked names, which answers in the zone's place for the names that it blocks.
 fn filtered(
     alloc: Global,
     zone: AuthoritativeZone,
