@@ -69,10 +69,12 @@ class Copy:
     def check(self, batch, is_whole, more):
         """Returns what the prover says of the crate with the edits of a batch in it."""
         self.write(batch, is_whole)
-        output, status = output_in(f"{self.room}/crate", [*self.words, "--incremental", f"{self.room}/kept", *more])
         self.checks += 1
-        if self.output:
-            with open(f"{self.output}/{self.name}.{self.checks}", "w", encoding="utf-8") as file:
+        said = self.output and f"{self.output}/{self.name}.{self.checks}"
+        stages = ["--stage-times", f"{said}.stages"] if said else []
+        output, status = output_in(f"{self.room}/crate", [*self.words, "--incremental", f"{self.room}/kept", *stages, *more])
+        if said:
+            with open(said, "w", encoding="utf-8") as file:
                 file.write(output)
         return verdicts.read_output(output, status)
 

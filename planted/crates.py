@@ -71,11 +71,16 @@ def logic():
     return output_of("rt", "version").partition("logic")[2].strip()
 
 
-def statements_of(name):
-    """Returns the paths of the files that say what a built library states: its types, contracts, definitions and lemmas, without the bodies of functions and
-    the proofs of their contracts."""
+def links_code(name, row):
+    """Whether a crate is a program or a static library, whose check reads all of the libraries below it, and not their public interface alone."""
+    return "staticlib" in row[0] or os.path.isfile(f"{ROOT}/crates/{name}/src/main.rt")
+
+
+def statements_of(name, is_whole):
+    """Returns the paths of the files that say what a built library states to a crate above it, without the bodies of functions and the proofs of their
+    contracts: its public types and contracts, definitions and lemmas; and where `is_whole` the types and contracts that are its own too."""
     folder = f"{library(name)}/{name}.rlib"
-    found = [it for part in ("interface/lang", "lang") for it in files_in(f"{folder}/{part}")]
+    found = [it for part in ("interface/lang", "lang" if is_whole else "lang/antt") for it in files_in(f"{folder}/{part}")]
     return [it for it in found if os.path.basename(it) not in PROOFS]
 
 
@@ -86,7 +91,7 @@ def state_of(name):
         return None
     table, whole = rows(), hashlib.sha256(logic().encode())
     paths = [it for part in PARTS for it in files_in(f"{ROOT}/crates/{name}/{part}")]
-    paths += [path for it in below(name, table) for path in statements_of(it)]
+    paths += [path for it in below(name, table) for path in statements_of(it, links_code(name, table[name]))]
     paths += edits_of(name)
     paths += [f"{ROOT}/planted/{it}" for it in sorted(os.listdir(f"{ROOT}/planted")) if it.endswith(".py") or it == "run"]
     for it in [*below(name, table), name]:

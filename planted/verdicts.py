@@ -7,8 +7,8 @@ PROOF = re.compile(r"(?:\./)?(proofs/\S+\.antt):\d+:\d+: error: (.*)")
 OF_FUNCTION = re.compile(r"proofs/(\S+)/(?:Answers|Proof|Invariants)\.antt")
 CLOSURE = re.compile(r"(?:(.*)::)?fn::([^+]*)::[^:+]+(?:\+\d+)?(?:\+Fn\w*::call\w*)?")
 FUNCTION = re.compile(r"fn \w+::(\S+): (.*)")
-# What a proof file says where the edit took away a name that it cites: this shows nothing of a contract.
-NAMES_ALONE = re.compile(r"was not admitted|is not in scope|has no field|has no `|is no name|(is|was) not found")
+# What a proof file says where the edit took away a name that it cites, and of what it did not look at for that reason: this shows nothing of a contract.
+NAMES_ALONE = re.compile(r"was not admitted|was not checked|is not in scope|has no field|has no `|is no name|(is|was) not found")
 UNREAD = re.compile(r"(?:\./)?(?:src|specs)/\S+?:\d+:\d+: error")
 VERDICT = re.compile(r"logic=(proved|not-proved)\b|only=\d+ (proved|holes)=\d+")
 # What is said of a function that is proved, also where a proof that it stands on was left open.
