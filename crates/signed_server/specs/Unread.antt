@@ -1,4 +1,4 @@
--- What becomes of a message with keys that cannot be read (RFC 8945 section 5.1, RFC 1035 section 4.1).
+-- What becomes of a message with keys that cannot be read (RFC 8945 section 5.2, RFC 1035 section 4.1).
 use Rattle.std.specs.Prelude.{◌≡◌, ℕ, Bool, true, false, List, [], ◌∷◌, None}
 use Rattle.std.specs.Bool.{MatchBool}
 use Rattle.wire_names.specs.declared.error.DecodeError.{DecodeError}
@@ -16,7 +16,7 @@ use Rattle.signed_server.specs.SignedAnswers.{bare_message}
 
 -- The first fault of a message is a record behind its TSIG, as a second TSIG, or a TSIG, OPT or SIG among its answers
 -- or authorities: "If multiple TSIG records are detected or a TSIG record is present in any other position, the DNS
--- message is dropped and a response with RCODE 1 (FORMERR) MUST be returned" (RFC 8945 section 5.1).
+-- message is dropped and a response with RCODE 1 (FORMERR) MUST be returned" (RFC 8945 section 5.2).
 abbrev pub is_misplaced : DecodeError → Bool
 is_misplaced RecordAfterSignature = true
 is_misplaced RecordNotInAdditionals = true
