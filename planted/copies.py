@@ -10,6 +10,7 @@ import crates
 import edits
 import functions
 import holes
+import twins
 import verdicts
 
 # The groups of the processes that run now, each of which ends with this driver, and whether it is about to end.
@@ -57,14 +58,17 @@ class Copy:
         for part in crates.PARTS:
             if os.path.isdir(f"{crates.ROOT}/crates/{self.name}/{part}"):
                 shutil.copytree(f"{crates.ROOT}/crates/{self.name}/{part}", f"{self.room}/crate/{part}")
-        texts, left = edits.with_edits(self.texts, batch), {}
+        in_twins = [it for it in batch if it.twin]
+        texts, left = edits.with_edits(self.texts, [it for it in batch if not it.twin]), {}
         if not is_whole:
             left = holes.open_in(self.functions, {path for edit in batch for path in edit.judges})
             texts = {path: holes.without_bodies(texts.get(path, text), left[path]) for path, text in self.texts.items()}
+        twins.put_texts(texts, in_twins, self.texts)
         for path, text in texts.items():
             with open(f"{self.room}/crate/{path}", "w", encoding="utf-8") as file:
                 file.write(text)
         holes.leave_open(f"{self.room}/crate", self.name, [it for found in left.values() for it in found])
+        twins.put_proofs(f"{self.room}/crate", self.name, in_twins, f"{crates.ROOT}/crates/{self.name}/proofs")
 
     def check(self, batch, is_whole, more):
         """Returns what the prover says of the crate with the edits of a batch in it."""

@@ -21,6 +21,9 @@ class Edit:
     is_apart: bool = False
     # Why it cannot be tried, if it cannot.
     fault: str = ""
+    # The file and the function in whose twin it can be tried, and the number of the twin in which it is, 0 for the function itself.
+    original: tuple = ()
+    twin: int = 0
 
 
 class BadEdit(Exception):

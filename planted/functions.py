@@ -5,14 +5,15 @@ from dataclasses import dataclass
 
 @dataclass
 class Function:
-    """A function: its path below the crate, its first and last line, from 0, the path of the proof of the cycle of calls that it is in, if it is in one, and
-    whether it has a body, which a trait's method may lack."""
+    """A function: its path below the crate, its first and last line, from 0, the path of the proof of the cycle of calls that it is in, if it is in one,
+    whether it has a body, which a trait's method may lack, and whether it is a method of a trait or of an impl of one."""
 
     path: str
     first: int
     last: int
     cycle: str = ""
     has_body: bool = True
+    is_of_trait: bool = False
 
 
 CYCLE = re.compile(r" *#\[cycle\((\w+)\)\]")
@@ -122,15 +123,16 @@ def functions_of(path, text, homes, generic):
             above = blocks[-1].path if blocks else "::".join(module_of(path))
             cycle = cycle_above(rows, at, module_of(path))
             path_below = f"{above}::{start[2]}".removeprefix("::")
-            found.append(Function(path_below, at, until, cycle, has_body(rows[at : until + 1], start[1])))
+            is_of_trait = any(it.is_of_trait for it in blocks)
+            found.append(Function(path_below, at, until, cycle, has_body(rows[at : until + 1], start[1]), is_of_trait))
         elif at > until and block:
-            name, is_own = block[2] or block[3], True
+            name, is_own, of_trait = block[2] or block[3], True, bool(block[3])
             if not name:
                 head = head_of(rows, at)
                 name, of_trait = name_of_impl(head)
                 is_own = of_trait or name in generic and not head.lstrip().startswith("impl<")
             above = module_of(path) if is_own else homes.get(name, module_of(path))
-            blocks.append(Function("::".join([*above, name]), at, ends_at(rows, at, block[1])))
+            blocks.append(Function("::".join([*above, name]), at, ends_at(rows, at, block[1]), is_of_trait=of_trait))
     return found
 
 

@@ -1,6 +1,8 @@
 """Tries the wrong edits of a crate in rounds: in each as many together as change different functions, and in the end one by one what no round has shown."""
 from dataclasses import dataclass
 
+import twins
+
 
 @dataclass
 class Answer:
@@ -11,14 +13,21 @@ class Answer:
     text: str
 
 
-def together(edits, most):
-    """Returns edits that can be tried at once, at most so many: no function is changed by two of them, and one that bears on functions that it does not
-    change is tried by itself."""
-    taken, batch = set(), []
+def together(edits, most, takes_twin):
+    """Returns edits that can be tried at once, at most so many: no function is changed by two of them, but that a further one may be tried in a twin of it, and
+    one that bears on functions that it does not change is tried by itself."""
+    taken, batch = {}, []
     for edit in edits:
-        if not edit.is_apart and not edit.functions & taken and len(batch) < most:
-            taken |= edit.functions
+        if edit.is_apart or len(batch) == most:
+            continue
+        if not edit.functions & taken.keys():
             batch.append(edit)
+        elif edit.original and takes_twin(edit):
+            batch.append(twins.twin_of(edit, 1 + max(taken[it] for it in edit.functions)))
+        else:
+            continue
+        for it in edit.functions:
+            taken[it] = taken.get(it, 0) + 1
     return batch or edits[:1]
 
 
@@ -63,7 +72,7 @@ class Rounds:
 
     def __init__(self, prove, reads, tell):
         self.prove, self.reads, self.tell = prove, reads, tell
-        self.answers, self.tried_once, self.alone = [], set(), []
+        self.answers, self.tried_once, self.alone, self.has_twins = [], set(), [], True
 
     def answer(self, answer):
         self.answers.append(answer)
@@ -100,15 +109,21 @@ class Rounds:
                 self.answer(Answer(edit.name, False, edit.fault))
         left, most = sorted((it for it in edits if not it.fault), key=lambda it: it.is_apart), len(edits)
         while left:
-            batch = together(left, most)
+            batch = together(left, most, lambda it: self.has_twins and it.name not in self.tried_once)
             said = self.prove(batch, False)
-            left = [it for it in left if it not in batch]
+            if not said.is_judged and any(it.twin for it in batch):
+                # (a twin may be what the front end does not take)
+                self.has_twins = False
+                continue
+            own = {it.name: it for it in left}
+            left = [it for it in left if it.name not in {edit.name for edit in batch}]
             if said.is_judged:
-                left = left + self.judged(batch, said)
+                left = left + [own[it.name] for it in self.judged(batch, said)]
             else:
                 rest = self.rejected(batch, said)
                 most = most if len(rest) < len(batch) else max(1, len(batch) // 2)
                 left = rest + left
-        for edit in self.alone:
+        by_name = {it.name: it for it in edits}
+        for edit in (by_name[it.name] for it in self.alone):
             self.answer(answer_alone(edit, self.prove([edit], True)))
         return self.answers
