@@ -36,6 +36,15 @@ static int let_privileges_go(void) {
     return prctl(PR_SET_NO_NEW_PRIVS, 1, 0, 0, 0);
 }
 
+/* Closes the sockets of all workers, except those of one, if it is given: a socket that any process has open gets
+ * clients, also if nobody reads from it. Sockets of systemd are those of every worker. */
+static void leave_sockets(const struct worker *but) {
+    for (const struct worker *it = workers; it < workers + running; it++)
+        for (int i = 0; i < it->sockets.count; i++)
+            if (but == NULL || it->sockets.all[i].fd != but->sockets.all[i].fd)
+                close(it->sockets.all[i].fd);
+}
+
 /* Begins the workers that are missing, or has new ones take the place of all: whether each could begin. Where one could
  * not, SIGALRM has it tried again. A zone that takes updates is in one process: no connection goes on with another. */
 static bool begin(bool is_anew) {
@@ -50,6 +59,7 @@ static bool begin(bool is_anew) {
         worker->pid = relay_begin() == 0 ? fork() : -1;
         if (worker->pid == 0) {
             prctl(PR_SET_PDEATHSIG, SIGTERM);
+            leave_sockets(worker);
             _exit(getppid() == parent ? work(&worker->sockets) : 0);
         }
         relay_leave();
@@ -105,6 +115,7 @@ int main(int count __attribute__((unused)), char **arguments) {
     for (size_t i = 0; i < sizeof awaited / sizeof *awaited; i++)
         sigaddset(&signals, awaited[i]);
     sigprocmask(SIG_BLOCK, &signals, NULL);
+    signal(SIGPIPE, SIG_IGN); /* a write to a pipe that nobody reads fails, and ends nothing */
     program_invocation_short_name = "zoned";
     if (read_arguments(arguments) != 0)
         return 2;
@@ -126,6 +137,8 @@ int main(int count __attribute__((unused)), char **arguments) {
             replace_ended();
     }
     notify("STOPPING=1\n");
+    leave_sockets(NULL);
+    close(statistics);
     for (int i = 0; i < running; i++)
         if (workers[i].pid > 0)
             kill(workers[i].pid, SIGTERM);

@@ -413,7 +413,7 @@ def has_ipv6():
 def try_same(zone):
     """What zone_serve answers, byte for byte: it has the same rules and zones, and other code around them."""
     if os.environ.get("COMPARED") == "" or not os.path.exists(ZONE_SERVE):
-        print("note: nothing is compared with crates/zone_serve, which is not built or not to be used")
+        print("note: nothing is compared with zone_serve in this run")
         return
     names = ["www.example.com", "WWW.example.COM", "example.com", "no.example.com", "h1.example.com", "large.example.com", "other.org", "a.b.c.example.com"]
     messages = [query(n, k, payload=p) for n in names for k in (1, 2, 6, 16, 28, 255) for p in (None, 4096)]
@@ -1107,6 +1107,32 @@ def try_log(folder, zone, port):
         want(f"a log that cannot be written keeps no query from its answer, and is told once: {why}", is_answered and said.count(why) == 1 and host.returncode == 0)
 
 
+def try_pipes(folder, zone, port):
+    """Pipes that nobody reads any more: neither the log nor the standard error ends a process (SIGPIPE)."""
+    pipe = os.path.join(folder, "unread")
+    os.mkfifo(pipe)
+    reader = os.open(pipe, os.O_RDONLY | os.O_NONBLOCK)
+    host = start(["--zone", f"example.com={zone}", "--query-log", pipe], port, stderr=subprocess.PIPE)
+    is_ready, worker = wait_for(port), children(host.pid)
+    host.stderr.close()
+    os.close(reader)
+    for _ in range(3):
+        udp(query("www.example.com"), port=port)
+    time.sleep(0.3)
+    want("a log that nobody reads any more leaves the worker as it is", is_ready and udp(query("www.example.com"), port=port) is not None and children(host.pid) == worker)
+    with open(zone) as it:
+        text = it.read()
+    with open(zone, "w") as it:
+        it.write("nonsense")
+    host.send_signal(signal.SIGHUP)
+    time.sleep(0.7)
+    want("a fault that nobody reads leaves all processes as they are", host.poll() is None and udp(query("www.example.com"), port=port) is not None and children(host.pid) == worker)
+    with open(zone, "w") as it:
+        it.write(text)
+    host.terminate()
+    want("and it ends", host.wait(15) == 0)
+
+
 def try_arguments(zone, bad):
     named = subprocess.run([ZONED, "--version"], stdout=subprocess.PIPE, text=True)
     want("--version tells it", named.returncode == 0 and named.stdout.startswith("zoned 0."))
@@ -1114,6 +1140,9 @@ def try_arguments(zone, bad):
     want("and not a bad one", status(["--check", "--zone", f"example.com={bad}"]) == 1)
     want("a wrong option is told", status(["--zones"]) == 2 and status(["--max-udp", "511"]) == 2 and status(["--listen", "127.0.0.1"]) == 2)
     want("a wrong network is told", status(["--check", "--zone", f"example.com={zone}", "--allow", "1.2.3"]) == 1)
+    for port in ("0", "65536", "99999", "", "5x"):
+        code, said = told(["--listen", f"127.0.0.1@{port}", "--zone", f"example.com={zone}"])
+        want(f'the port "{port}" is refused', code == 1 and said == f"zoned: 127.0.0.1@{port}: the port is not a number from 1 to 65535\n")
 
 
 def told(words):
@@ -1239,9 +1268,10 @@ def main():
         for it in (try_journal, try_relayed, try_one_writer, try_journal_configuration, try_journal_limit, try_journal_at_once, try_journal_full, try_journal_stays_full, try_journal_kills):
             it(folder, PORT + 4)
     else:
-        print("note: no journal is tried, since crates/zone_serve is not built")
+        want("crates/zone_serve is built, which has the journals: (cd crates/zone_serve && rt run -- --version) proves and builds it", False)
     try_activation(zone, PORT + 2)
     try_log(folder, zone, PORT + 2)
+    try_pipes(folder, zone, PORT + 2)
     try_limits(zone, PORT + 2, path)
     try_workers(zone, PORT + 2, path)
     try_privileges(zone, PORT + 2)
@@ -1251,6 +1281,7 @@ def main():
         print("note: there is no IPv6 here, so no wildcard address is tried")
 
 
-main()
-print(f"{passed} passed, {failed} failed")
-sys.exit(failed != 0)
+if __name__ == "__main__":
+    main()
+    print(f"{passed} passed, {failed} failed")
+    sys.exit(failed != 0)

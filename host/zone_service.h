@@ -20,6 +20,10 @@
 #include <stddef.h>
 #include <stdint.h>
 
+#ifdef __cplusplus
+extern "C" {
+#endif
+
 enum {
     ZONE_SERVICE_DONE = 0,
     ZONE_SERVICE_DENIED = 1,       /* the address may not use the server; nobody looked at the bytes */
@@ -153,5 +157,9 @@ void zone_service_count_replies(zone_service *service, const uint8_t *replies, s
 /* Puts the text in which monitoring reads such numbers (Prometheus' text-based format) to the front of out, as far as there is room; it has
  * less than 2,048 bytes. *length is how many they are. DONE, or MEMORY, and *length is 0. */
 uint32_t zone_service_statistics(const struct zone_service_counters *counters, uint8_t *out, size_t room, size_t *length);
+
+#ifdef __cplusplus
+}
+#endif
 
 #endif
