@@ -65,8 +65,7 @@ class Copy:
             texts = {path: holes.without_bodies(texts.get(path, text), left[path]) for path, text in self.texts.items()}
         twins.put_texts(texts, in_twins, self.texts)
         for path, text in texts.items():
-            with open(f"{self.room}/crate/{path}", "w", encoding="utf-8") as file:
-                file.write(text)
+            crates.write(f"{self.room}/crate/{path}", text)
         holes.leave_open(f"{self.room}/crate", self.name, [it for found in left.values() for it in found])
         twins.put_proofs(f"{self.room}/crate", self.name, in_twins, f"{crates.ROOT}/crates/{self.name}/proofs")
 
@@ -78,8 +77,7 @@ class Copy:
         stages = ["--stage-times", f"{said}.stages"] if said else []
         output, status = output_in(f"{self.room}/crate", [*self.words, "--incremental", f"{self.room}/kept", *stages, *more])
         if said:
-            with open(said, "w", encoding="utf-8") as file:
-                file.write(output)
+            crates.write(said, output)
         return verdicts.read_output(output, status)
 
     def prove(self, batch, is_whole):

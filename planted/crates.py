@@ -1,8 +1,10 @@
 """The crates of this repository: their rows in crates.txt, their texts, and the words of the prover's command."""
+import functools
 import hashlib
 import os
-import shutil
 import subprocess
+
+from verdicts import VERSION
 
 ROOT = os.path.dirname(os.path.dirname(os.path.abspath(__file__)))
 PARTS = ("src", "specs", "proofs")
@@ -10,6 +12,18 @@ PARTS = ("src", "specs", "proofs")
 PROOFS = ("Answers.antt", "Invariants.antt", "Proof.antt", "made.json")
 
 
+def read(path):
+    with open(path, encoding="utf-8") as file:
+        return file.read()
+
+
+def write(path, text):
+    os.makedirs(os.path.dirname(path), exist_ok=True)
+    with open(path, "w", encoding="utf-8") as file:
+        file.write(text)
+
+
+@functools.cache
 def output_of(*words):
     """Returns what a command prints."""
     return subprocess.run(words, stdout=subprocess.PIPE, text=True, check=True).stdout.strip()
@@ -23,12 +37,11 @@ def kit():
 def rows():
     """Returns the words of each crate's row in crates.txt: what stands beside its name, and the libraries behind the colon."""
     found = {}
-    with open(f"{ROOT}/crates.txt", encoding="utf-8") as file:
-        for row in file.read().split("\n"):
-            head, _, libraries = row.partition("#")[0].partition(":")
-            if head.strip():
-                name, *kind = head.split()
-                found[name] = kind, libraries.split()
+    for row in read(f"{ROOT}/crates.txt").split("\n"):
+        head, _, libraries = row.partition("#")[0].partition(":")
+        if head.strip():
+            name, *kind = head.split()
+            found[name] = kind, libraries.split()
     return found
 
 
@@ -48,22 +61,28 @@ def files_in(folder):
 
 def texts_of(name):
     """Returns the texts of a crate's source files, by their path in the crate."""
-    folder, texts = f"{ROOT}/crates/{name}", {}
-    for path in files_in(f"{folder}/src"):
-        with open(path, encoding="utf-8") as file:
-            texts[os.path.relpath(path, folder)] = file.read()
-    return texts
+    folder = f"{ROOT}/crates/{name}"
+    return {os.path.relpath(path, folder): read(path) for path in files_in(f"{folder}/src")}
+
+
+def with_edits():
+    """Returns the names of the crates that have a file of wrong edits, in the order of crates.txt, and after them those that it has not."""
+    found = {it.removesuffix(".edits") for it in os.listdir(f"{ROOT}/planted") if it.endswith(".edits")}
+    return [it for it in rows() if it in found] + sorted(found - rows().keys())
 
 
 def edits_of(name):
-    """Returns the paths of the files of a crate's wrong edits that this driver tries."""
-    return [it for it in files_in(f"{ROOT}/planted/{name}") if it.endswith(".edit")]
+    """Returns the text of a crate's file of wrong edits."""
+    return read(f"{ROOT}/planted/{name}.edits")
 
 
-def strays():
-    """Returns the folders of planted/ that have edits and are named as no crate."""
-    table = rows()
-    return [it for it in sorted(os.listdir(f"{ROOT}/planted")) if it not in table and edits_of(it)]
+def sum_of(name):
+    """Returns the state in which all edits of a crate were refused last, as the first line of their file has it."""
+    return edits_of(name).partition("\n")[0].removeprefix("sum:").strip()
+
+
+def write_sum(name, state):
+    write(f"{ROOT}/planted/{name}.edits", f"sum: {state}\n" + edits_of(name).partition("\n")[2])
 
 
 def logic():
@@ -86,14 +105,13 @@ def statements_of(name, is_whole):
 
 def state_of(name):
     """Returns a sum of all that decides how a crate's edits are answered: its text and its row, the rows of the crates below and what these state, its edits,
-    this driver, and the logic; or None where a library below is not built."""
-    if not_built(name):
+    the version of this driver's verdicts, and the logic; or None where they cannot be tried."""
+    if lacks(name):
         return None
-    table, whole = rows(), hashlib.sha256(logic().encode())
+    table = rows()
+    whole = hashlib.sha256(f"{logic()} {VERSION} ".encode() + edits_of(name).partition("\n")[2].encode())
     paths = [it for part in PARTS for it in files_in(f"{ROOT}/crates/{name}/{part}")]
     paths += [path for it in below(name, table) for path in statements_of(it, links_code(name, table[name]))]
-    paths += edits_of(name)
-    paths += [f"{ROOT}/planted/{it}" for it in sorted(os.listdir(f"{ROOT}/planted")) if it.endswith(".py") or it == "run"]
     for it in [*below(name, table), name]:
         whole.update(repr((it, table[it])).encode())
     for path in paths:
@@ -107,15 +125,16 @@ def library(name):
     return f"{ROOT}/crates/{name}/out/rlib"
 
 
-def not_built(name):
-    """Returns the libraries below a crate whose rlib is not there, or is older than a text that it is made from."""
+def lacks(name):
+    """Returns why a crate's edits cannot be tried, or nothing: a library below it has no rlib, or one older than a text that it is made from."""
     table, found = rows(), []
-    for it in below(name, table):
+    for it in below(name, table) if name in table else ():
         texts = [path for crate in [it, *below(it, table)] for part in PARTS for path in files_in(f"{ROOT}/crates/{crate}/{part}")]
         made = f"{library(it)}/{it}.rlib"
         if not os.path.isdir(made) or os.path.getmtime(made) < max(map(os.path.getmtime, texts)):
             found.append(it)
-    return found
+    why = f"the built library of {', '.join(found)} is not there, or older than its text: run rt ci" if found else ""
+    return why if name in table else "crates.txt has no crate of this name"
 
 
 def words_of(name):

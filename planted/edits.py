@@ -1,9 +1,13 @@
-"""Wrong edits: their files, the lines that each changes, and the functions that hold those lines."""
-import os
+"""Wrong edits: the files that they are written in, the lines that each changes, and the functions that hold those lines."""
 import re
 from dataclasses import dataclass, field
 
-from functions import functions_in
+from functions import functions_in, module_of
+
+# A heading names a file of src/ and a function of it, without the module's path where it begins with that; below it are edits of that function.
+HEADING = re.compile(r"## (src/\S+\.rt)(?:: (\S+))?")
+EDIT = re.compile(r"((?:# .+\n)+)(\w+)\n((?:- .+\n\+(?: .*)?(?:\n|$))+)((?:refused at: \S+(?:\n|$))*)")
+PAIR = re.compile(r"^- (.+)\n\+ ?(.*)$", re.M)
 
 
 @dataclass
@@ -26,82 +30,68 @@ class Edit:
     twin: int = 0
 
 
-class BadEdit(Exception):
-    """Says why an edit cannot be tried."""
+def blocks_of(text):
+    """Returns the blocks of a file of edits, which empty lines part, without its first line."""
+    return [it for it in re.split(r"\n{2,}", text.partition("\n")[2].strip("\n")) if it]
 
 
-def pairs_of(text):
-    """Yields the file, the old text and the new text of each pair of an edit's file."""
-    path, old = "", ""
-    for line in text.split("\n"):
-        if line.startswith("file: "):
-            path = line.removeprefix("file: ").strip()
-            if not path.startswith("src/") or os.path.normpath(path) != path:
-                raise BadEdit(f"{path} is no file of src/, and an edit of a contract, a definition or a proof shows nothing")
-        elif line.startswith("old: "):
-            old = line.removeprefix("old: ")
-        elif line.startswith("new:"):
-            if not path or not old:
-                raise BadEdit("a line `new:` stands before any line `file:` or `old:`")
-            yield path, old, line.removeprefix("new:").removeprefix(" ")
-            old = ""
+def names_in(text):
+    """Returns the names of the edits in the text of a file of edits."""
+    return [it[2] for it in map(EDIT.fullmatch, blocks_of(text)) if it]
 
 
-def texts_after(text, texts):
-    """Returns the texts of the files that an edit changes, by their path: each pair applies to what those before it made."""
-    made = {}
-    for path, old, new in pairs_of(text):
-        if path not in texts:
-            raise BadEdit(f"there is no file {path}")
-        now = made.get(path, texts[path])
-        if now.count(old) != 1:
-            raise BadEdit(f"its old text stands in {path} {now.count(old)} times, and not once: {old}")
-        made[path] = now.replace(old, new)
-    if not made:
-        raise BadEdit("it has no pair of lines `old:` and `new:`")
-    return made
-
-
-def changed_lines(before, after):
-    """Returns what stands after the edit in each line that differs, by its number."""
+def changed_lines(before, pairs):
+    """Returns what each line that an edit changes has after it, by its number: each pair applies to what those before it made."""
+    after = before
+    for old, new in pairs:
+        if after.count(old) != 1:
+            raise ValueError(f"its old text is in the file {after.count(old)} times, and not once: {old}")
+        after = after.replace(old, new)
     rows = zip(before.split("\n"), after.split("\n"), strict=True)
     return {at: new for at, (old, new) in enumerate(rows) if old != new}
 
 
-def read_edit(name, text, texts, functions):
-    """Returns the edit of this name, whose file has this text, of a crate whose files have these texts and functions."""
+def read_edit(words, path, heading, texts, functions):
+    """Returns the edit of these words (its name, its pairs, and the paths that must refuse it) under a heading, of a crate of these texts and functions."""
+    name, pairs, judges = words
     edit = Edit(name)
     try:
-        made = texts_after(text, texts)
-    except BadEdit as why:
+        if path not in texts:
+            raise ValueError(f"there is no file {path}")
+        changed = changed_lines(texts[path], pairs)
+    except ValueError as why:
         edit.fault = f"it does not fit: {why}"
         return edit
-    for path, after in made.items():
-        for at, row in changed_lines(texts[path], after).items():
-            edit.lines[path, at] = row
-            holders = [it for it in functions[path] if it.first <= at <= it.last]
-            edit.functions.update(path for it in holders for path in (it.path, it.cycle) if path)
-            edit.is_apart = edit.is_apart or not holders
-    edit.judges = edit.functions | set(re.findall(r"^refused at: (\S+)$", text, re.M))
+    for at, row in changed.items():
+        edit.lines[path, at] = row
+        holders = [it for it in functions[path] if it.first <= at <= it.last]
+        edit.functions.update(it for holder in holders for it in (holder.path, holder.cycle) if it)
+        edit.is_apart = edit.is_apart or not holders
+    edit.judges = edit.functions | judges
     edit.is_apart = edit.is_apart or edit.judges != edit.functions
     if not edit.lines:
         edit.fault = "NOT REFUSED: it changes nothing"
     elif not edit.judges:
         edit.fault = "it changes no function, and no line `refused at:` names the one whose proof must refuse it"
+    elif not {heading, "::".join([*module_of(path), heading])} & (edit.functions or {""}):
+        edit.fault = f"it does not fit: it is under `{heading}`, and changes {', '.join(sorted(edit.functions)) or 'no function'}"
     return edit
 
 
-def name_of(path):
-    """Returns the name of the edit that stands in a file of this path."""
-    return os.path.basename(path).removesuffix(".edit")
-
-
-def edits_in(paths, texts):
-    """Returns the edits that stand in files of these paths."""
-    functions, found = functions_in(texts), []
-    for path in paths:
-        with open(path, encoding="utf-8") as file:
-            found.append(read_edit(name_of(path), file.read(), texts, functions))
+def edits_in(text, texts):
+    """Returns the edits of a file of edits, of a crate whose source files have these texts."""
+    functions, found, path, heading, seen = functions_in(texts), [], "", "", set()
+    for block in blocks_of(text):
+        head, edit = HEADING.fullmatch(block), EDIT.fullmatch(block)
+        if head:
+            path, heading = head[1], head[2] or ""
+        elif edit and edit[2] not in seen:
+            words = edit[2], PAIR.findall(edit[3]), set(re.findall(r": (\S+)", edit[4]))
+            found.append(read_edit(words, path, heading, texts, functions))
+            seen.add(edit[2])
+        else:
+            fault = "an earlier edit has its name" if edit else "it is neither a heading `## src/FILE: FUNCTION` nor an edit of the form that README.md has"
+            found.append(Edit(block.partition("\n")[0], fault=fault))
     return found
 
 

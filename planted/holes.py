@@ -3,6 +3,8 @@ body, and with a hole for a proof. The prover takes them by their contracts, and
 import os
 import re
 
+import crates
+
 PROOFS = ("Answers", "Invariants", "Proof")
 # The body of a function that is left open.
 NOTHING = "unreachable!()"
@@ -13,12 +15,6 @@ def open_in(functions, judges):
     calls it, so it is not looked at."""
     left = lambda it: it.has_body and it.path != "main" and not {it.path, it.cycle} & judges
     return {path: list(filter(left, found)) for path, found in functions.items()}
-
-
-def of_itself(path):
-    """Returns the path of the cycle that a function which calls itself makes alone."""
-    above, found, name = path.rpartition("::")
-    return f"{above}{found}+{name}"
 
 
 def body_in(rows, function):
@@ -58,9 +54,6 @@ def leave_open(folder, crate, functions):
     """Puts holes in the place of the proofs of these functions of a crate that stands in a folder, and of the cycles that they are in."""
     for path in {it.cycle or it.path for it in functions}:
         remove_proof(folder, path)
-        # (without its body a function calls itself no more)
-        remove_proof(folder, of_itself(path))
-        home = os.path.join(folder, "proofs", *path.split("::"))
-        os.makedirs(home, exist_ok=True)
-        with open(f"{home}/Proof.antt", "w", encoding="utf-8") as file:
-            file.write(text_of(crate, path))
+        # (without its body a function calls itself no more: the cycle that it made by itself is gone)
+        remove_proof(folder, re.sub(r"(\w+)$", r"+\1", path))
+        crates.write(os.path.join(folder, "proofs", *path.split("::"), "Proof.antt"), text_of(crate, path))

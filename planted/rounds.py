@@ -2,15 +2,19 @@
 from dataclasses import dataclass
 
 import twins
+from verdicts import BY_NOTHING
 
 
 @dataclass
 class Answer:
-    """What became of an edit: whether the prover refuses it, as it must, and where, or what is wrong with it."""
+    """What became of an edit: what refuses it, as something must, and where, or what is wrong with it."""
 
     edit: str
-    is_refused: bool
     text: str
+    kind: str = BY_NOTHING
+
+    def is_refused(self):
+        return self.kind != BY_NOTHING
 
 
 def together(edits, most, takes_twin):
@@ -45,8 +49,10 @@ def unreadable(batch, reads):
 def answer_of(edit, said):
     """Returns what a check says of an edit, whose functions no other edit of it changes. None where it says nothing, or only that the borrow checker does not
     cover one of these: it covers none that calls such a one either, so that may come of another edit."""
-    for path in sorted(edit.judges & said.refused.keys()):
-        return Answer(edit.name, True, f"refused at {path}: {said.refused[path]}")
+    # (open goals come first)
+    for path in sorted(edit.judges & said.refused.keys(), key=lambda it: (said.refused[it][0], it)):
+        kind, line = said.refused[path]
+        return Answer(edit.name, f"refused at {path}, {kind}: {line}", kind)
     return None
 
 
@@ -56,14 +62,14 @@ def answer_alone(edit, said):
     if answer:
         return answer
     for path in sorted(edit.judges & said.uncovered.keys()):
-        return Answer(edit.name, False, f"REFUSED BY NO GOAL: the borrow checker does not cover {path} with it, which says nothing of a contract")
+        return Answer(edit.name, f"REFUSED BY NO GOAL: the borrow checker does not cover {path} with it, which says nothing of a contract")
     if not said.is_judged:
-        return Answer(edit.name, False, f"NOT TRIED: {said.first}")
+        return Answer(edit.name, f"NOT TRIED: {said.first}")
     if said.is_proved:
-        return Answer(edit.name, False, "NOT REFUSED: the crate is still proved with it")
-    for path, line in sorted(said.refused.items()):
-        return Answer(edit.name, False, f"REFUSED ELSEWHERE, in no function that it changes or names by `refused at:`: at {path}: {line}")
-    return Answer(edit.name, False, f"REFUSED BY NO GOAL: {said.first}")
+        return Answer(edit.name, "NOT REFUSED: the crate is still proved with it")
+    for path, (_, line) in sorted(said.refused.items()):
+        return Answer(edit.name, f"REFUSED ELSEWHERE, in no function that it changes or names by `refused at:`: at {path}: {line}")
+    return Answer(edit.name, f"REFUSED BY NO GOAL: {said.first}")
 
 
 class Rounds:
@@ -96,7 +102,7 @@ class Rounds:
         """Takes in that a batch came to no verdict, and returns the edits of it that can still be tried."""
         bad = unreadable(batch, self.reads) if said.is_rejected else []
         for edit, why in bad:
-            self.answer(Answer(edit.name, False, f"DOES NOT READ: {why.first}"))
+            self.answer(Answer(edit.name, f"DOES NOT READ: {why.first}"))
         if not bad and len(batch) == 1:
             self.alone += batch
             return []
@@ -106,7 +112,7 @@ class Rounds:
         """Returns an answer for each of the edits."""
         for edit in edits:
             if edit.fault:
-                self.answer(Answer(edit.name, False, edit.fault))
+                self.answer(Answer(edit.name, edit.fault))
         left, most = sorted((it for it in edits if not it.fault), key=lambda it: it.is_apart), len(edits)
         while left:
             batch = together(left, most, lambda it: self.has_twins and it.name not in self.tried_once)

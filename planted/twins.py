@@ -5,6 +5,8 @@ import re
 import shutil
 from dataclasses import replace
 
+import crates
+
 
 def twin_path(path, number):
     return f"{path}__{number}"
@@ -22,17 +24,7 @@ def folder_of(proofs, path):
 def cited_by_others(crate, proofs, path):
     """Whether a file of proofs/ that is not the function's own cites what is made of it: that would not hold of a twin."""
     name, own = re.compile(re.escape(dotted(crate, path)) + r"\b(?!__)"), folder_of(proofs, path) + os.sep
-    for at, _, files in os.walk(proofs):
-        for it in files:
-            file = os.path.join(at, it)
-            if not file.startswith(own) and name.search(read(file)):
-                return True
-    return False
-
-
-def read(path):
-    with open(path, encoding="utf-8") as file:
-        return file.read()
+    return any(name.search(crates.read(it)) for it in crates.files_in(proofs) if not it.startswith(own))
 
 
 def has_closures_with_proofs(proofs, path):
@@ -101,8 +93,5 @@ def put_proofs(folder, crate, twins, proofs):
             continue
         shutil.copytree(source, target)
         name = re.compile(re.escape(dotted(crate, path)) + r"\b")
-        for at, _, files in os.walk(target):
-            for it in files:
-                text = name.sub(dotted(crate, twin_path(path, edit.twin)), read(os.path.join(at, it)))
-                with open(os.path.join(at, it), "w", encoding="utf-8") as file:
-                    file.write(text)
+        for it in crates.files_in(target):
+            crates.write(it, name.sub(dotted(crate, twin_path(path, edit.twin)), crates.read(it)))

@@ -2,6 +2,11 @@
 import re
 from dataclasses import dataclass, field
 
+# Raised when this driver judges an edit in another way than before: the sums of all edits fall with it.
+VERSION = 1
+# What refuses an edit: a goal of the function that is open, which speaks of its meaning; or merely an error in a proof by hand, whose text may only be that of
+# other code.
+KINDS = BY_GOAL, BY_LETTER, BY_NOTHING = "by a goal", "by the letter of a proof", "by nothing"
 # An error in a file that somebody wrote: of a function's proof, or of lemmas.
 PROOF = re.compile(r"(?:\./)?(proofs/\S+\.antt):\d+:\d+: error: (.*)")
 OF_FUNCTION = re.compile(r"proofs/(\S+)/(?:Answers|Proof|Invariants)\.antt")
@@ -26,7 +31,8 @@ class Said:
     is_proved: bool = False
     # Whether the text was refused before any goal was put: it does not parse, has a wrong type, or breaks a rule of borrowing.
     is_rejected: bool = False
-    # Of each function that has a goal of its own open, or an error in its own proof: the line that says so; likewise of each file of lemmas, by its path.
+    # Of each function that has a goal of its own open, or an error in its own proof by hand: which of both, the goal first, and the line that says so;
+    # likewise of each file of lemmas, by its path.
     refused: dict = field(default_factory=dict)
     # Of each function that only the borrow checker holds up: the line that says so.
     uncovered: dict = field(default_factory=dict)
@@ -52,7 +58,8 @@ def read_function(said, path, line):
     if HOLDS.match(line):
         said.proved.add(path)
     elif "did not prove" in line:
-        said.refused.setdefault(owner, line)
+        if said.refused.get(owner, [""])[0] != BY_GOAL:
+            said.refused[owner] = BY_GOAL, line
     elif "borrow checker" in line:
         said.uncovered.setdefault(owner, line)
 
@@ -75,7 +82,7 @@ def read_message(said, message):
     if function:
         read_function(said, function[1], function[2])
     elif proof and not NAMES_ALONE.search(re.sub(r"`[^`]*`", "``", proof[2])[:160]):
-        said.refused.setdefault(proved_in(proof[1]), message)
+        said.refused.setdefault(proved_in(proof[1]), (BY_LETTER, message))
 
 
 def read_output(output, status):
