@@ -1,41 +1,30 @@
-"""Messages for the load run, by a seed: good ones, damaged ones and hostile ones, for the server that SERVER begins.
+"""Messages for the load run, by a seed: good ones, damaged ones and hostile ones, for the server that `files` and `ARGUMENTS` describe.
 
-Each is a command of zone_script, and what is to come of it: a response code, FAULT for what is no message, or None for either.
+Each comes with the address that it is from, and with what is to come of it: a response code, FAULT for what is no message, or None for either.
 """
+import os
 import random
+import sys
 
-# What the server holds: a zone that takes updates, one whose verifier finds each signature bad, one that everybody may have, and a
-# list of blocked names.
-SERVER = """\
-hex
-tcp
-now 150
-signer fixed
-identifier 6e7331
-zone example.com.
-example.com. 3600 IN SOA ns.example.com. admin.example.com. 7 3600 1800 604800 86400
-example.com. 3600 IN NS ns.example.com.
-{hosts}
-updatable deny allow-update
-verifier good 100 200 key.example.
-serve example.com.
-zone example.org.
-example.org. 3600 IN SOA ns.example.org. admin.example.org. 7 3600 1800 604800 86400
-updatable allow-signed allow-update
-verifier bad key.example.
-serve example.org.
-zone example.net. allow-all
-example.net. 3600 IN SOA ns.example.net. admin.example.net. 7 3600 1800 604800 86400
-example.net. 3600 IN NS ns.example.net.
-serve example.net.
-blocklist example.edu.
-block blocked.example.edu
-serve example.edu.
-"""
+sys.path.insert(0, os.path.join(os.path.dirname(os.path.realpath(__file__)), "../clients"))
+import updates
+
+# What the server holds: two zones that take updates, one that everybody may have, and a list of blocked names.
+APEX = "$TTL 3600\n@ IN SOA ns admin 7 3600 1800 604800 86400\n@ IN NS ns\n"
+ZONES = ["example.com", "example.org", "example.net", "example.edu"]
+ARGUMENTS = [
+    *(word for it in ZONES for word in ("--zone", f"{it}={it}.zone")),
+    "--blocklist", "blocked", "--keys", "keys", "--nsid", "ns1", "--deny-transfer", "198.51.100.0/24",
+    *(word for it in ZONES[:2] for word in ("--allow-update", f"{it}={updates.KEY} zone ANY")), "lines",
+]
+
+# Who may have zones, and who may not.
+CLIENT, STRANGER = "192.0.2.1", "198.51.100.1"
+BAD_SECRET = bytes(32)
 
 FAULT = "a fault"
 NOERROR, NXDOMAIN, NOTIMP, REFUSED, YXDOMAIN, NOTAUTH = 0, 3, 4, 5, 6, 9
-A, NS, SOA, NULL, MX, TXT, OPT, TSIG, AXFR, ANY = 1, 2, 6, 10, 15, 16, 41, 250, 252, 255
+A, NS, SOA, NULL, MX, TXT, OPT, AXFR, ANY = 1, 2, 6, 10, 15, 16, 41, 252, 255
 IN, NONE = 1, 254
 UPDATE = 0x2800
 RECURSION_DESIRED = 0x100
@@ -49,9 +38,12 @@ GOOD = 60
 DAMAGED = 25
 
 
-def server():
-    hosts = "\n".join(f"www{i}.example.com. 3600 IN A 192.0.2.{i}" for i in range(HOSTS))
-    return SERVER.format(hosts=hosts)
+def files():
+    """The files that the server reads, by their names."""
+    hosts = "".join(f"www{i} IN A 192.0.2.{i}\n" for i in range(HOSTS))
+    found = {f"{it}.zone": APEX + "ns IN A 192.0.2.53\n" for it in ZONES}
+    found["example.com.zone"] += hosts
+    return found | {"blocked": "blocked.example.edu\n", "keys": updates.STATEMENT}
 
 
 def two(number):
@@ -82,13 +74,8 @@ def edns(options=b"", version=0, dnssec_ok=0):
     return b"\0" + two(OPT) + two(1232) + bytes([0, version, dnssec_ok, 0]) + two(len(options)) + options
 
 
-def signature(identifier):
-    data = wire("hmac-sha256") + (150).to_bytes(6, "big") + two(300) + two(4) + b"\1\2\3\4" + two(identifier) + bytes(4)
-    return record(wire("key.example"), TSIG, data, ANY)
-
-
 class Messages:
-    """A stream of messages, the same for the same seed."""
+    """A stream of messages, the same for the same seed but for the times and MACs of signatures."""
 
     def __init__(self, seed):
         self.random = random.Random(seed)
@@ -96,9 +83,14 @@ class Messages:
     def query(self, name, record_type=A, more=b"", additionals=0):
         return header(self.identifier, counts=(1, 0, 0, additionals)) + question(name, record_type) + more
 
-    def update(self, zone, section, signed=True, prerequisites=0, updates=1):
-        front = header(self.identifier, UPDATE, (1, prerequisites, updates, int(signed))) + question(zone, SOA) + section
-        return front + signature(self.identifier) if signed else front
+    def update(self, zone, section, secret=updates.SECRET, prerequisites=0, count=1):
+        """An update, signed by the key with this secret, or by none."""
+        message = header(self.identifier, UPDATE, (1, prerequisites, count, 0)) + question(zone, SOA) + section
+        return updates.signed(message, secret=secret) if secret else message
+
+    def refused_transfer(self):
+        self.client = STRANGER
+        return self.query("example.com", AXFR)
 
     def host(self):
         return f"www{self.random.randrange(HOSTS)}.example.com"
@@ -115,7 +107,7 @@ class Messages:
             lambda: (self.query("example.com", SOA), NOERROR),
             lambda: (self.query("blocked.example.edu"), NOERROR),
             lambda: (self.query("example.net", AXFR), NOERROR),
-            lambda: (self.query("example.com", AXFR), REFUSED),
+            lambda: (self.refused_transfer(), REFUSED),
             lambda: (self.query(f"www{self.random.randrange(10**6)}.example"), REFUSED),
             lambda: (header(self.identifier, 0x1000) + question(self.host()), NOTIMP),
         ])()
@@ -129,9 +121,9 @@ class Messages:
             lambda: (self.update("example.com", addition), NOERROR),
             lambda: (self.update("example.com", deletion), NOERROR),
             lambda: (self.update("example.com", in_use + addition, prerequisites=1), YXDOMAIN),
-            lambda: (self.update("example.com", addition, signed=False), REFUSED),
-            lambda: (self.update("example.org", b"", updates=0), NOTAUTH),
-            lambda: (self.update("example", b"", updates=0), NOTAUTH),
+            lambda: (self.update("example.com", addition, None), REFUSED),
+            lambda: (self.update("example.org", b"", BAD_SECRET, count=0), NOTAUTH),
+            lambda: (self.update("example", b"", count=0), NOTAUTH),
         ])()
 
     def good(self):
@@ -140,7 +132,7 @@ class Messages:
     def damaged(self):
         """A message with some bytes changed, left out or put in. Updates are such as would not be made."""
         name = wire(f"u{self.random.randrange(UPDATED)}.example.org")
-        update = self.update("example.org", record(name, A, b"\xc0\0\2\1", ttl=60))
+        update = self.update("example.org", record(name, A, b"\xc0\0\2\1", ttl=60), BAD_SECRET)
         message = bytearray(update if self.random.randrange(3) == 0 else self.good_query()[0])
         for _ in range(self.random.randrange(1, 4)):
             place = self.random.randrange(len(message))
@@ -211,9 +203,9 @@ class Messages:
         return self.lies() if shape < 80 else self.small_parts()
 
     def next(self):
-        """The kind of the next message, its bytes, and what is to come of it."""
-        self.identifier = self.random.randrange(65536)
+        """The kind of the next message, the address that it is from, its bytes, and what is to come of it."""
+        self.identifier, self.client = self.random.randrange(65536), CLIENT
         share = self.random.randrange(100)
         kind = "good" if share < GOOD else "damaged" if share < GOOD + DAMAGED else "hostile"
         message, wanted = getattr(self, kind)()
-        return kind, message, wanted
+        return kind, self.client, message, wanted

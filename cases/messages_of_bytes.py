@@ -1,4 +1,4 @@
-"""DNS messages from bytes and back, by RFC 1035 section 4.1, for `read_back`: written from the RFC, and nothing of the library's."""
+"""DNS messages from bytes and back, by RFC 1035 section 4.1, for the transcripts: written from the RFC, and nothing of the library's."""
 import collections
 
 HEADER = 12
