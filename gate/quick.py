@@ -1,5 +1,5 @@
-"""A look at the check in a few minutes, which is not the check: one small crate is proved, a wrong edit of it is refused, and programs that are built without
-any proof run on the files of `cases`."""
+"""A look at the check in a few minutes, which is not the check: one small crate is proved, its wrong edits are refused, and programs that are built without
+any proof run on the rows of `cases`."""
 import os
 import re
 import subprocess
@@ -11,14 +11,17 @@ from concurrent.futures import ThreadPoolExecutor
 ROOT = os.path.dirname(os.path.dirname(os.path.abspath(__file__)))
 sys.path[:0] = [f"{ROOT}/planted", f"{ROOT}/cases"]
 
-import case_files
 import crates
 import machine
+import shown
+import transcripts
 
-# What `rt try` says of a case, and of the end of a try.
-RAN = re.compile(r"case=(\S+) run=(\S+) status=(\S+) .*?output=(\S+) ")
+# What `rt try` prints of a case: its output between a line with its name and a line with how it ended.
+RAN = re.compile(rb"^== (\d+)\n(.*?)^case=\1 run=(\S+) status=(\S+) [^\n]*\n", re.MULTILINE | re.DOTALL)
 # It would run each case on an interpreter first, for so many steps.
 STEPS = "1"
+# The programs whose rows are run.
+PROGRAMS = ("zone_serve", "check_zone", "zone_reply")
 
 
 def tell(text):
@@ -31,69 +34,97 @@ def text_size(name):
 
 
 def smallest_crate():
-    """Returns the crate with wrong edits of its own that takes least to prove, with all that it rests on."""
+    """Returns the crate with must-fail edits that takes least to prove, with all that it rests on."""
     table = crates.rows()
     tried = [it for it in table if os.path.isdir(f"{ROOT}/crates/{it}/must-fail")]
     return min(tried, key=lambda name: sum(map(text_size, [name, *crates.below(name, table)])))
 
 
+def output_of(words, folder):
+    """Runs a command; returns its lines, and its status."""
+    ran = subprocess.run(words, cwd=folder, stdin=subprocess.DEVNULL, stdout=subprocess.PIPE, stderr=subprocess.STDOUT, text=True, errors="replace")
+    return ran.stdout.rstrip("\n").split("\n"), ran.returncode
+
+
 def prove(name):
-    """Has `rt ci` prove a crate and try its wrong edits; returns how many of these passed and how many failed."""
-    ran = subprocess.run(["rt", "ci", name], cwd=ROOT, stdin=subprocess.DEVNULL, stdout=subprocess.PIPE, stderr=subprocess.STDOUT, text=True, errors="replace")
-    lines = ran.stdout.rstrip("\n").split("\n")
-    found = re.fullmatch(r"(\d+) passed, (\d+) failed\b.*", lines[-1])
-    told = [it for it in lines if it.startswith("rt: ") and re.search(rf"\b{name}\b", it)]
-    tell(f"rt ci {name}:\n" + "\n".join(f"  {it}" for it in told or lines[-4:]))
-    passed, failed = (int(found[1]), int(found[2])) if found else (0, 1)
-    return passed, max(failed, 1) if ran.returncode else failed
+    """Proves a crate and tries its must-fail edits; returns how many of these passed and how many failed."""
+    said, status = output_of(["rt", "verdict"], f"{ROOT}/crates/{name}")
+    tell(f"rt verdict in crates/{name}: {said[-1]}")
+    if status:
+        return 0, 1
+    edits = [it for it in os.listdir(f"{ROOT}/crates/{name}/must-fail") if it.endswith(".edit")]
+    said, status = output_of(["rt", "must-fail", name], ROOT)
+    refused = [it for it in said if re.search(rf"must-fail {name}/\S+: refused", it)]
+    tell(f"rt must-fail {name}: {len(refused)} of {len(edits)} wrong edits are refused")
+    return 1 + len(refused), max(len(edits) - len(refused), int(status != 0))
 
 
-def can_be_tried(case):
-    """Whether `rt try` can run a case: it gives no environment, no streams that fail and no journal, and runs a program under a name of its own."""
-    is_named = f"Usage: {case.program} ".encode() in case.wanted and "clap" in crates.rows()[case.program][1]
-    return not is_named and not {"env", "stdin", "stdout", "journal"} & case.files.keys()
+def can_be_tried(group):
+    """Whether `rt try` can run a scenario: one command, with no environment, no streams that fail, and files that are files."""
+    command = group[0]
+    is_named = any(it.kind == "out" and it.text.startswith("Usage: ") for it in command.body)
+    is_plain = len(group) == 1 and not command.environment and not command.streams and not is_named
+    return is_plain and not any("\x00" in it or not it.isascii() for it in command.arguments)
 
 
-def write_case(folder, case):
-    """Writes a case as `rt try` reads it, and returns its name there."""
-    name = os.path.basename(case.name)
-    given = {"": case.read("in") or case.read_hex("hex") or b"", ".args": case.read("args"), ".stdout": case.wanted}
-    for ending, octets in given.items():
-        if octets is not None:
-            with open(f"{folder}/{name}{ending}", "wb") as file:
-                file.write(octets)
-    return name
+def with_one_text_a_name(commands):
+    """Returns the commands that can be run in one folder, since each file of theirs has one content, and those files by name: as many commands as come first."""
+    files, found = {}, []
+    for command in commands:
+        own = {name: octets for name, octets in command.files.items() if any(name in it for it in command.arguments)}
+        if all(isinstance(it, bytes) for it in own.values()) and all(files.get(name, octets) == octets for name, octets in own.items()):
+            files.update(own)
+            found.append(command)
+    return found, files
 
 
-def data_of(program):
-    """Returns the words that give a program the files that it may be told to read."""
-    found = []
-    for source in case_files.DATA.get(program, []):
-        top = f"{case_files.FOLDER}/{source}"
-        for path in crates.files_in(top):
-            found += ["--data", f"{os.path.relpath(path, top)}={path}"]
-    return found
+def write(path, octets):
+    os.makedirs(os.path.dirname(path), exist_ok=True)
+    with open(path, "wb") as file:
+        file.write(octets)
 
 
-def run_unproved(program, cases):
-    """Builds a program without any proof and runs it on cases; returns how many passed and how many failed."""
-    tried, failed = [it for it in cases if can_be_tried(it)], 0
+def try_all(program, commands, files, now):
+    """Builds a program without any proof and runs commands; returns what `rt try` printed, and the lines of input of each command."""
     with tempfile.TemporaryDirectory(prefix="quick-") as folder:
-        by_name = {write_case(folder, it): it for it in tried}
-        words = ["rt", "try", "--steps", STEPS, "--cases", folder, *data_of(program)]
+        inputs = []
+        for at, command in enumerate(commands):
+            octets, lines = command.given(now)
+            inputs.append(lines)
+            write(f"{folder}/cases/{at}", octets)
+            write(f"{folder}/cases/{at}.args", "".join(f"{it}\n" for it in command.arguments).encode())
+        words = ["rt", "try", "--steps", STEPS, "--cases", f"{folder}/cases"]
+        for name, octets in files.items():
+            write(f"{folder}/files/{name}", octets)
+            words += ["--data", f"{name}={folder}/files/{name}"]
         ran = subprocess.run(words, cwd=f"{ROOT}/crates/{program}", stdin=subprocess.DEVNULL, stdout=subprocess.PIPE, stderr=subprocess.STDOUT)
-    said = ran.stdout.decode(errors="replace")
-    ends = {it[1]: it.group(2, 3, 4) for it in RAN.finditer(said)}
-    for name, case in by_name.items():
-        wanted = ("ended", str(case.status), "expected")
-        if ends.get(name) != wanted:
+    return ran.stdout, inputs
+
+
+def is_passed(command, lines, now, ended):
+    """Whether a command printed what its transcript wants, and ended as it wants."""
+    printed, run, status = ended
+    if run != b"ended" or int(status) != command.wanted_status:
+        return False
+    found, _, faults = shown.shown(command, lines, now, (printed, b"", int(status)))
+    return not faults and shown.wanted(command)[0] == found
+
+
+def run_unproved(program, groups):
+    """Builds a program without any proof and runs scenarios of it; returns how many passed and how many failed."""
+    can = [group[0] for group in groups if can_be_tried(group)]
+    (commands, files), now = with_one_text_a_name(can), int(time.time())
+    said, inputs = try_all(program, commands, files, now)
+    ends, failed = {int(it[1]): it.group(2, 3, 4) for it in RAN.finditer(said)}, 0
+    for at, command in enumerate(commands):
+        if at not in ends or not is_passed(command, inputs[at], now, ends[at]):
             failed += 1
-            tell(f"FAILED {case.path}, by {program}: {' '.join(ends.get(name, ['it was not run']))}, and not {' '.join(wanted)}")
+            tell(f"FAILED {command.place}, by {program}, built without any proof")
     if not ends:
-        tell(f"rt try in crates/{program} said:\n" + "\n".join(f"  {it}" for it in said.rstrip().split("\n")[-8:]))
-    left = len(cases) - len(tried)
-    tell(f"{program}, built without any proof: {len(tried) - failed} of its {len(tried)} cases pass{f'; {left} more need the proved program' if left else ''}")
-    return len(tried) - failed, failed
+        tell(f"rt try in crates/{program} said:\n" + "\n".join(f"  {it}" for it in said.decode(errors="replace").rstrip().split("\n")[-8:]))
+    left = len(groups) - len(commands)
+    tell(f"{program}, built without any proof: {len(commands) - failed} of {len(commands)} rows pass{f'; {left} scenarios more need the proved program' if left else ''}")
+    return len(commands) - failed, failed
 
 
 def main():
@@ -101,13 +132,12 @@ def main():
     started, name = time.monotonic(), smallest_crate()
     tell("THIS IS NOT THE CHECK: it proves one crate and no other, and runs programs of which nothing is proved. ./verify is the check")
     tell("it takes less than five minutes on four cores")
-    by_program = {}
-    for case in case_files.all_cases()[0]:
-        by_program.setdefault(case.program, []).append(case)
-    # (the largest program takes longest)
-    programs = sorted(by_program, key=lambda it: -text_size(it))
-    with ThreadPoolExecutor(min(machine.processors(), 1 + len(programs))) as pool:
-        tasks = [pool.submit(run_unproved, it, by_program[it]) for it in programs]
+    by_program, shared = {it: [] for it in PROGRAMS}, transcripts.shared_files()
+    for path in transcripts.all_paths():
+        for group in transcripts.scenarios(transcripts.read(path, shared)):
+            by_program.get(group[0].program, []).append(group)
+    with ThreadPoolExecutor(min(machine.processors(), 1 + len(PROGRAMS))) as pool:
+        tasks = [pool.submit(run_unproved, it, groups) for it, groups in by_program.items()]
         tasks.insert(1, pool.submit(prove, name))
         sums = [it.result() for it in tasks]
     passed, failed = (sum(it) for it in zip(*sums))

@@ -1,7 +1,0 @@
-use Rattle.std.proofs.Common.{◌≡◌, map}
-use Rattle.tests_base.proofs.sinks.copies.Given as goal
-
-abbrev pub invariant-records : goal.invariant-records
-invariant-records g l =
-    (goal.iterator-records g).can_next l.item-iterator × (goal.iterator-records g).is_finite l.item-iterator
-    × (l.copies ≡ map g.I.Item.RecordRef.record_of l.yielded)

@@ -1,4 +1,0 @@
-//! The catalog: a transfer whose sink fails.
-
-mod fixtures;
-mod transfers;
