@@ -5,14 +5,4 @@
 //! thread or process may have one of its own.
 #![tactic(auto)]
 
-mod answering;
-mod counting;
 mod exports;
-mod frames;
-mod handle;
-mod limiting;
-mod logging;
-mod service;
-mod settings;
-mod told;
-mod updates;

@@ -2,8 +2,8 @@ use Rattle.std.proofs.Common.{◌≡◌, ◌++◌, ◌∷◌, []}
 use Rattle.access_control.specs.Access.{Inserts}
 use Rattle.served_keys.specs.ServedKeys.{IsKeyName, all_networks}
 use Rattle.wire_names.specs.rr.domain.DomainName.{DomainName}
-use Rattle.zone_service.specs.declared.service.Service.{Service}
-use Rattle.zone_service.proofs.Results.{holds}
+use Rattle.server.specs.declared.service.Service.{Service}
+use Rattle.server.proofs.Results.{holds}
 use Rattle.zone_service.proofs.exports.zone_service_allow_transfer_key.Goals as goal
 
 pub returns : goal.returns

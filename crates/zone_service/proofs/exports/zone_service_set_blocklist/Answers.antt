@@ -1,8 +1,8 @@
 use Rattle.std.proofs.Common.{option_map}
 use Rattle.name_lists.specs.Counts.{Counts}
-use Rattle.zone_service.specs.Lists.{IsListOfText}
-use Rattle.zone_service.specs.declared.service.Service.{Service}
-use Rattle.zone_service.proofs.Results.{held}
+use Rattle.server.specs.Lists.{IsListOfText}
+use Rattle.server.specs.declared.service.Service.{Service}
+use Rattle.server.proofs.Results.{held}
 use Rattle.zone_service.proofs.exports.zone_service_set_blocklist.Goals as goal
 
 pub returns-clause-list : goal.returns-clause-list

@@ -1,7 +1,7 @@
 use Rattle.std.proofs.Common.{◌∷◌, []}
 use Rattle.access_control.specs.Access.{Inserts, Network}
-use Rattle.zone_service.specs.declared.service.Service.{Service}
-use Rattle.zone_service.proofs.Results.{holds}
+use Rattle.server.specs.declared.service.Service.{Service}
+use Rattle.server.proofs.Results.{holds}
 use Rattle.zone_service.proofs.exports.zone_service_set_transfer_denied.Goals as goal
 
 pub returns : goal.returns

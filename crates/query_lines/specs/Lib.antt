@@ -1,2 +1,0 @@
-pub mod QueryLines
-pub mod QueryLogs

@@ -1,0 +1,229 @@
+//! What a server is told before its first message, and why it is not taken.
+
+ghost use Rattle.std.specs.Prelude.{◌≡◌, IfOk, Some, option_map};
+ghost use Rattle.served_zones.specs.ServedZones.{IsApexText};
+ghost use Rattle.served_keys.specs.ServedKeys.{IsKeyName};
+ghost use Rattle.server.specs.Lists.{IsListOfText};
+ghost use Rattle.server.specs.Updates.{IsGrantOf};
+
+use hickory_server::access::{IpNet, IpNetTextError};
+use hickory_server::proto::{Name, NameError};
+use hickory_server::store::blocklist::BlocklistZoneHandler;
+use name_lists::ListReport;
+use served_keys::files::KeysFault;
+use served_keys::names::{KeyNameFault, key_named};
+use served_updates::grants::{Grant, GrantFault, zone_grant};
+use served_updates::moving::MoveFault;
+use served_zones::chains::apex;
+use served_zones::identifier::IdentifierFault;
+use served_zones::lists;
+use served_zones::zones::ZoneFault;
+use std::alloc::{AllocError, AllocFailed, Global};
+use std::rc::Rc;
+use std::str;
+use thiserror::Error;
+use tsig::Keys;
+
+/// Why a setting is not taken.
+#[derive(Clone, Copy, Debug, PartialEq, Eq, Error)]
+pub enum SettingFault {
+    /// A name is none.
+    #[error("not the name of a zone")]
+    ZoneName,
+    /// There is a zone of this name.
+    #[error("a zone of this name is there")]
+    ZoneTwice,
+    /// A zone file is not taken.
+    #[error("{0}")]
+    Zone(ZoneFault),
+    /// A list of blocked names blocks nothing: it is empty, or another kind of text.
+    #[error("no line of the list gives a name")]
+    NoNames,
+    /// A network is none.
+    #[error("{0}")]
+    Network(IpNetTextError),
+    /// A bound is no number of bytes that a reply over UDP may always have (RFC 1035 section 4.2.1).
+    #[error("not a number from 512 to 65535")]
+    MaxUdp,
+    /// An identifier has more bytes than an option holds (RFC 6891 section 6.1.2).
+    #[error("the identifier is too long")]
+    LongIdentifier,
+    /// A file of keys is not taken.
+    #[error("{0}")]
+    Keys(KeysFault),
+    /// A text names no key.
+    #[error("{0}")]
+    KeyName(KeyNameFault),
+    /// Two texts are no rule of a zone.
+    #[error("{0}")]
+    Rule(GrantFault),
+    /// A rule is of no zone that was added.
+    #[error("rule {number} of who may update is of no zone that is served")]
+    RuleWithoutZone {
+        /// Which of the rules it is, from 1.
+        number: usize,
+    },
+    /// A zone that takes updates answers for the DS records of a zone right below it, and would not see itself change.
+    #[error("zone {number} takes updates, and a zone right below it is served too, whose DS records it has")]
+    ZoneBelow {
+        /// Which of the zones it is, from 1.
+        number: usize,
+    },
+    /// A text is not UTF-8.
+    #[error("not UTF-8")]
+    NotUtf8,
+    /// Memory was refused.
+    #[error("no memory")]
+    Memory,
+}
+
+impl From<AllocError> for SettingFault {
+    fn from(_e: AllocError) -> SettingFault {
+        SettingFault::Memory
+    }
+}
+
+impl<T: Drop> From<AllocFailed<T>> for SettingFault {
+    fn from(_e: AllocFailed<T>) -> SettingFault {
+        SettingFault::Memory
+    }
+}
+
+impl From<ZoneFault> for SettingFault {
+    fn from(e: ZoneFault) -> SettingFault {
+        match e {
+            ZoneFault::Memory => SettingFault::Memory,
+            other => SettingFault::Zone(other),
+        }
+    }
+}
+
+impl From<IdentifierFault> for SettingFault {
+    fn from(e: IdentifierFault) -> SettingFault {
+        match e {
+            IdentifierFault::Long => SettingFault::LongIdentifier,
+            IdentifierFault::Memory => SettingFault::Memory,
+        }
+    }
+}
+
+impl From<KeysFault> for SettingFault {
+    fn from(e: KeysFault) -> SettingFault {
+        match e {
+            KeysFault::Memory => SettingFault::Memory,
+            other => SettingFault::Keys(other),
+        }
+    }
+}
+
+impl From<KeyNameFault> for SettingFault {
+    fn from(e: KeyNameFault) -> SettingFault {
+        match e {
+            KeyNameFault::Memory => SettingFault::Memory,
+            other => SettingFault::KeyName(other),
+        }
+    }
+}
+
+impl From<GrantFault> for SettingFault {
+    fn from(e: GrantFault) -> SettingFault {
+        match e {
+            GrantFault::Memory => SettingFault::Memory,
+            other => SettingFault::Rule(other),
+        }
+    }
+}
+
+impl From<MoveFault> for SettingFault {
+    fn from(e: MoveFault) -> SettingFault {
+        match e {
+            MoveFault::Shared { place } => SettingFault::ZoneBelow {
+                number: place.saturating_add(1),
+            },
+            MoveFault::Memory => SettingFault::Memory,
+        }
+    }
+}
+
+/// The name that a text spells, with or without a dot at its end; the root is a dot alone.
+pub fn zone_name(alloc: Global, text: &[u8]) -> Result<Name, SettingFault>
+    ensures { IfOk result (IsApexText text.now) }
+{
+    let Ok(text) = str::from_utf8(text) else {
+        return Err(SettingFault::NotUtf8);
+    };
+    match apex(alloc, text) {
+        Ok(name) => Ok(name),
+        Err(NameError::Text) => Err(SettingFault::ZoneName),
+        Err(_) => Err(SettingFault::Memory),
+    }
+}
+
+/// The name of a key of these that a text spells, with or without a dot at its end.
+pub fn key_name(alloc: Global, keys: &Keys, text: &[u8]) -> Result<Name, SettingFault>
+    ensures { IfOk result (IsKeyName text.now) }
+{
+    let Ok(text) = str::from_utf8(text) else {
+        return Err(SettingFault::NotUtf8);
+    };
+    Ok(key_named(alloc, keys, text)?)
+}
+
+/// Bytes as a text.
+fn text_of(bytes: &[u8]) -> Result<&str, SettingFault>
+    ensures { IfOk result (λ text. text.now ≡ bytes.now) }
+{
+    match str::from_utf8(bytes) {
+        Ok(text) => Ok(text),
+        Err(_) => Err(SettingFault::NotUtf8),
+    }
+}
+
+/// The rule of a zone that two texts spell, whose key is one of these.
+pub fn zone_rule(
+    alloc: Global,
+    keys: &Keys,
+    zone: &[u8],
+    rule: &[u8],
+) -> Result<Grant, SettingFault>
+    ensures { IfOk result (IsGrantOf keys.now zone.now rule.now) }
+{
+    let zone = text_of(zone)?;
+    let rule = text_of(rule)?;
+    Ok(zone_grant(alloc, keys, zone, rule)?)
+}
+
+/// The network that a text spells.
+pub fn network(text: &[u8]) -> Result<IpNet, SettingFault> {
+    let Ok(text) = str::from_utf8(text) else {
+        return Err(SettingFault::NotUtf8);
+    };
+    text.parse::<IpNet>().map_err(SettingFault::Network)
+}
+
+/// The list of the names in a text, and what became of its lines.
+pub fn blocklist(
+    alloc: Global,
+    text: &[u8],
+) -> Result<(Rc<BlocklistZoneHandler>, ListReport), SettingFault>
+    ensures { IfOk result (λ both. IsListOfText text.now both.1 (Some both.0.value)) }
+{
+    let mut list = lists::blocklist(alloc)?;
+    let report = lists::add_names(alloc, &mut list, text)?;
+    if report.taken() == 0 {
+        return Err(SettingFault::NoNames);
+    }
+    Ok((Rc::new(alloc, list)?, report))
+}
+
+/// The list of blocked names once more, if there is one.
+pub fn shared(
+    list: Option<&Rc<BlocklistZoneHandler>>,
+) -> Result<Option<Rc<BlocklistZoneHandler>>, AllocError>
+    ensures { IfOk result (λ shared. option_map (λ it. it.value) shared ≡ option_map (λ it. it.now.value) list.entry) }
+{
+    match list {
+        Some(list) => Ok(Some(list.clone()?)),
+        None => Ok(None),
+    }
+}

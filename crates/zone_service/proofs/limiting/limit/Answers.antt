@@ -1,6 +1,0 @@
-use Rattle.std.proofs.Common.{Some, ap, rules}
-use Rattle.zone_service.specs.Limited.{limited}
-use Rattle.zone_service.proofs.limiting.limit.Goals as goal
-
-pub returns-clause-limited : goal.returns-clause-limited
-returns-clause-limited c = limited c.in-Some.limits (search rules) (search rules) (search rules) c.limit_reply.ensures.limited (ap Some c.limit_reply.ensures.counted)
