@@ -20,8 +20,9 @@ import transcripts
 RAN = re.compile(rb"^== (\d+)\n(.*?)^case=\1 run=(\S+) status=(\S+) [^\n]*\n", re.MULTILINE | re.DOTALL)
 # It would run each case on an interpreter first, for so many steps.
 STEPS = "1"
-# The programs whose rows are run.
+# The programs whose rows are run, at most so many of each, and none that reads more lines: an unproved program is slow.
 PROGRAMS = ("zone_serve", "check_zone", "zone_reply")
+MOST, LINES = 60, 20
 
 
 def tell(text):
@@ -62,17 +63,27 @@ def prove(name):
 def can_be_tried(group):
     """Whether `rt try` can run a scenario: one command, with no environment, no streams that fail, and files that are files."""
     command = group[0]
-    is_named = any(it.kind == "out" and it.text.startswith("Usage: ") for it in command.body)
-    is_plain = len(group) == 1 and not command.environment and not command.streams and not is_named
+    is_named = any("Usage: " in it.text for it in command.body if it.kind in ("out", "err"))
+    is_short = sum(it.kind.startswith("in") for it in command.body) <= LINES
+    is_plain = len(group) == 1 and not command.environment and not command.streams and not is_named and is_short
     return is_plain and not any("\x00" in it or not it.isascii() for it in command.arguments)
 
 
+def files_of(command):
+    """Returns the files that a command's arguments name, and those that these include."""
+    named = {name for name in command.files if any(name in it for it in command.arguments)}
+    texts = [command.files[it] for it in named if isinstance(command.files[it], bytes)]
+    named |= {name for name in command.files if any(f"$INCLUDE {name}".encode() in it for it in texts)}
+    return {name: octets for name, octets in command.files.items() if name in named}
+
+
 def with_one_text_a_name(commands):
-    """Returns the commands that can be run in one folder, since each file of theirs has one content, and those files by name: as many commands as come first."""
+    """Returns commands that can be run in one folder, since each file of theirs has one content, and those files by name: the first ones."""
     files, found = {}, []
     for command in commands:
-        own = {name: octets for name, octets in command.files.items() if any(name in it for it in command.arguments)}
-        if all(isinstance(it, bytes) for it in own.values()) and all(files.get(name, octets) == octets for name, octets in own.items()):
+        own = files_of(command)
+        is_alike = all(isinstance(octets, bytes) and files.get(name, octets) == octets for name, octets in own.items())
+        if is_alike and len(found) < MOST:
             files.update(own)
             found.append(command)
     return found, files
@@ -106,6 +117,11 @@ def is_passed(command, lines, now, ended):
     printed, run, status = ended
     if run != b"ended" or int(status) != command.wanted_status:
         return False
+    # (`rt try` shows the standard error among the output)
+    for line in command.wanted("err").splitlines(keepends=True):
+        if line not in printed:
+            return False
+        printed = printed.replace(line, b"", 1)
     found, _, faults = shown.shown(command, lines, now, (printed, b"", int(status)))
     return not faults and shown.wanted(command)[0] == found
 
