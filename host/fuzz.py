@@ -57,12 +57,12 @@ def use(s):
 
 
 def ask(path):
-    """Connects to where statistics are told, and reads them, or not."""
+    """Connects to a Unix socket, and reads, or sends what is no command."""
     with socket.socket(socket.AF_UNIX, socket.SOCK_STREAM) as s:
         s.settimeout(5)
         try:
             s.connect(path)
-            s.recv(chance.choice([1, 8192])) if chance.random() < 0.7 else s.send(b"x")
+            s.recv(chance.choice([1, 8192])) if chance.random() < 0.7 else s.send(chance.randbytes(chance.randrange(1, 200)))
         except OSError:
             pass
 
@@ -104,10 +104,10 @@ def main():
     records = "".join(f'h{i} IN TXT "{"x" * 200}"\n' for i in range(2000))
     zone.write("$TTL 60\n@ IN SOA ns admin 7 3600 1800 604800 86400\n@ IN NS ns\nwww IN A 192.0.2.1\n" + records)
     zone.close()
-    told = f"{zone.name}.statistics"
-    limits = ["--tcp-most", "40", "--tcp-client", "60", "--tcp-idle", "1", "--rate-limit", "100", "--statistics", told]
+    told, control = f"{zone.name}.statistics", f"{zone.name}.control"
+    limits = ["--tcp-most", "40", "--tcp-client", "60", "--tcp-idle", "1", "--rate-limit", "100", "--statistics", told, "--control", control]
     host = subprocess.Popen([ZONED, "--listen", f"127.0.0.1@{PORT}", "--zone", f"example.com={zone.name}", *limits])
-    time.sleep(3)
+    any(answers_as_ever() for _ in range(6))
     first, end, count, connections = children(host), time.time() + float(sys.argv[2]), 0, []
     datagrams = socket.socket(socket.AF_INET, socket.SOCK_DGRAM)
     datagrams.setblocking(False)
@@ -115,7 +115,7 @@ def main():
         count += 1
         round_of(datagrams, connections)
         if chance.random() < 0.01:
-            ask(told)
+            ask(chance.choice([told, told, told, control]))
     for s in connections:
         s.close()
     datagrams.close()

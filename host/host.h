@@ -8,19 +8,25 @@
 #include <errno.h>
 #include <fcntl.h>
 #include <grp.h>
+#include <libgen.h>
+#include <linux/sockios.h>
+#include <malloc.h>
 #include <netdb.h>
 #include <netinet/in.h>
 #include <netinet/tcp.h>
 #include <poll.h>
 #include <pwd.h>
 #include <signal.h>
+#include <stdarg.h>
 #include <stdio.h>
 #include <stdlib.h>
 #include <string.h>
 #include <sys/epoll.h>
+#include <sys/ioctl.h>
 #include <sys/mman.h>
 #include <sys/prctl.h>
 #include <sys/queue.h>
+#include <sys/resource.h>
 #include <sys/signalfd.h>
 #include <sys/socket.h>
 #include <sys/stat.h>
@@ -30,15 +36,15 @@
 #include <unistd.h>
 
 #define MOST_SOCKETS 32
-#define MOST_GIVEN 4096
 #define MOST_WORKERS 64
+#define LAST_SECONDS 5 /* in which a worker that is to end sends the replies at hand */
 
 /* Options with a number. */
 enum number {
     NO_NUMBER,
     MAX_UDP,    /* bytes of a reply over UDP */
     WORKERS,    /* processes that serve */
-    LOG_EVERY,  /* one in so many queries is told */
+    LOG_EVERY,  /* one in so many queries has a line */
     RATE,       /* replies over UDP a second and network */
     SLIP,       /* of those above it each so many says TC */
     TCP_IDLE,   /* seconds */
@@ -47,41 +53,51 @@ enum number {
     NUMBERS
 };
 
-/* An option: a number that is set within bounds, or a text. The library is told of a text by set as it is, by set_pair
- * of the two parts of NAME=TEXT; of one that names a file, what is in the file. A zone_serve is told of all texts that
- * are not of zoned alone. */
+/* An option: a number that is set within bounds, or a text. The library gets a text by set as it is, by set_pair as the
+ * two parts of NAME=TEXT; of one that names a file, what is in the file. */
 struct option {
     const char *name, *says;
     uint32_t (*set)(zone_service *, const uint8_t *, size_t, uint8_t *, size_t, size_t *);
     uint32_t (*set_pair)(zone_service *, const uint8_t *, size_t, const uint8_t *, size_t, uint8_t *, size_t, size_t *);
-    bool is_file, is_own;
+    bool is_file;
     enum number number;
     int least, most, usual;
 };
 
-/* What zoned is told, and the server that the library made of it. */
+/* The options, and the server that the library made of them. */
 struct settings {
     struct given {
         const struct option *option;
-        const char *text;
-    } given[MOST_GIVEN]; /* options with a text, in their order */
+        char *text;
+    } *given; /* options with a text, in their order */
     int count, numbers[NUMBERS];
     bool is_check;        /* the files are only to be read */
-    bool is_unwritten;    /* a zone_serve of these settings could not write updates that it held */
-    zone_service service; /* at NULL where there is none */
-    size_t used;
-    char room[1 << 20]; /* whose front has what configuration files say */
+    bool *has_failed;     /* for each text: it is a journal that could not be written. All processes share these */
+    zone_service service; /* at NULL if there is none */
 };
 extern struct settings *settings;
 
-/* settings.c: given tells the text of an option, the last where there are several, or NULL. read_arguments puts new
- * settings into the place of those before, which stay, and keeps their number of workers, if there are any; load makes
- * the server that the settings ask for, of their files. Both are 0, or -1 with a line on the standard error. forget
- * frees settings. */
+/* What all processes share: what the workers counted, how many have closed their sockets to end, and a number that
+ * grows when they are to begin a query log, and is odd if they are to have none. */
+#define COUNTERS (sizeof(struct zone_service_counters) / sizeof(uint64_t))
+extern struct shared {
+    uint64_t counters[COUNTERS], journal_failures, left;
+    uint32_t log_turn;
+} *shared;
+
+/* settings.c: given is the text of an option, the last if there are several, or NULL. read_arguments puts new settings
+ * into the place of those before, which remain, and keeps their number of workers, if there are any; load makes the
+ * server that the settings ask for, from their files. Both are 0, or -1 with a line on the standard error. read_all is
+ * the bytes of an open file, or NULL. forget frees settings, if there are any, and gives memory back to the system. say
+ * reports what is wrong in a line on the standard error, and keeps it for zonedctl and systemd. */
 const char *given(const char *option);
 int read_arguments(char **arguments);
 int load(void);
+uint8_t *read_all(int fd, size_t *len);
 void forget(struct settings *old);
+extern char said[512];
+void say(const char *format, ...) __attribute__((format(printf, 1, 2)));
+#define complain(...) (say(__VA_ARGS__), -1)
 
 /* What a worker waits for, and what it does with the events that came. */
 struct watch {
@@ -96,25 +112,34 @@ struct sockets {
     int count;
 };
 
-/* sockets.c: how many sockets systemd has opened. open takes these, and opens those at given addresses: 0, or -1 with a
- * line on the standard error. */
+/* sockets.c: how many sockets systemd has opened. open takes these, and opens those at given addresses; if there is no
+ * place for them, it only looks whether nobody has these addresses. 0, or -1 with a line on the standard error. */
 int adopted_sockets(void);
 int open_sockets(struct sockets *sockets);
 
-/* worker.c: work serves until SIGTERM, then lets its connections end; it opens the file of the log anew. wait_for has
- * it wait for these events of a descriptor, or for none: 0, or -1. */
+/* worker.c: work serves until SIGTERM, then sends the replies at hand, for at most LAST_SECONDS. open_log opens the
+ * query log: its descriptor, or -1. wait_for makes a worker wait for these events of a descriptor, or for none: 0, or
+ * -1. milliseconds is a clock's time. */
 extern uint64_t now, moment; /* of events at hand: seconds since 1970, and milliseconds of a clock that is never set */
+uint64_t milliseconds(clockid_t clock);
 int work(struct sockets *sockets);
+int open_log(const char *path);
 int wait_for(struct watch *watch, uint32_t events);
 
-/* statistics.c: begin makes the socket where they are told, if they are to be: 0, or -1 with a line on the standard
- * error. add has what the server counted since the last time, tell answers a client. */
-extern int statistics; /* that socket, or less than 0 */
-int statistics_begin(void);
+/* statistics.c: share makes shared. listen_at opens a Unix socket at the path of an option, if it is given, of this
+ * mode, if it is not 0. Both are 0, or -1 with a line on the standard error. add adds what the server counted since the
+ * last time. write sends all as text, tell does so to a client. */
+extern int statistics, control; /* sockets, or less than 0 */
+int share(void);
+int listen_at(const char *option, mode_t mode, int *fd);
 void statistics_add(void);
+void statistics_write(int fd);
 void statistics_tell(struct watch *listener);
 
-/* The bytes of an address. */
+/* control.c: answers a client. */
+void control_answer(void);
+
+/* The bytes of an address. An IPv4 address that came by a socket of IPv6 (RFC 4291 section 2.5.5.2) has its 4. */
 struct source {
     const uint8_t *bytes;
     size_t len;
@@ -123,43 +148,40 @@ struct source {
 static inline struct source source_of(const struct sockaddr_storage *address) {
     const struct sockaddr_in *v4 = (const void *)address;
     const struct sockaddr_in6 *v6 = (const void *)address;
+    if (address->ss_family == AF_INET6 && IN6_IS_ADDR_V4MAPPED(&v6->sin6_addr))
+        return (struct source){v6->sin6_addr.s6_addr + 12, 4, ntohs(v6->sin6_port)};
     if (address->ss_family == AF_INET6)
         return (struct source){v6->sin6_addr.s6_addr, 16, ntohs(v6->sin6_port)};
     return (struct source){(const uint8_t *)&v4->sin_addr, 4, ntohs(v4->sin_port)};
 }
 
-/* relay.c: where zones have journals, begin starts the process that answers, once the one before has ended, and waits
- * until it does: 0, or -1 with a line on the standard error. Behind one that could not write updates which it held,
- * those of the same settings hold none. leave has nobody but the worker ask it. tell_ahead tells it the first of these
- * datagrams, and how many; each that is whole and not empty is to be answered next, in their order. ask has it answer
- * a message. answer, answer_stream and take are those of zone_service.h, by that process where there is one; with it,
- * take may find that nothing waits any more. */
-extern pid_t serving; /* that process, or 0; whoever waits for its end sets it to 0 */
-#define TELLS_UNWRITTEN(status) (WIFEXITED(status) && WEXITSTATUS(status) == 6) /* that updates it held are not written */
-extern int asked; /* where that process is asked and answers, or less than 0 */
-int relay_begin(void);
-void relay_leave(void);
-int tell_ahead(const struct mmsghdr *datagrams, int count);
-uint32_t ask(const uint8_t *message, size_t len, struct source source, bool stream, uint8_t *out, size_t *written,
-             size_t *waiting);
-static inline uint32_t answer(const uint8_t *message, size_t len, const struct source *source, bool stream,
-                              uint8_t *out, size_t room, size_t *written, size_t *waiting) {
-    return asked >= 0 ? ask(message, len, *source, stream, out, written, waiting)
-                      : zone_service_answer(&settings->service, message, len, source->bytes, source->len, source->port,
-                                            stream, now, out, room, written, waiting);
-}
-uint32_t answer_stream(const uint8_t *bytes, size_t len, const struct source *source, uint8_t *out, size_t room,
-                       size_t *taken, size_t *written, size_t *waiting);
-size_t take(uint8_t *out, size_t room, size_t *waiting);
+/* journals.c: open has the library open all journals, in files that no other process has, for which it waits so many
+ * seconds: 0, or -1 with a line on the standard error. Between hold and settle updates are held. settle writes them to
+ * the disk, before any reply leaves; if that fails, the process ends. compact makes journals shorter that are too long.
+ * close lets others have the files: whether there are any. No message is answered after that. */
+int journals_open(int seconds);
+void journals_hold(void);
+void journals_settle(void);
+void journals_compact(void);
+bool journals_close(void);
 
 /* udp.c: answers what waits at a socket. */
 void udp_ready(struct watch *socket);
 
-/* tcp.c: how many connections there are; accept takes one that waits; expire closes those that are too old or too many:
- * milliseconds until the next one is too old, or -1. */
+/* tcp.c: how many connections there are; accept takes one that waits; expire closes those that are idle too long or too
+ * many: milliseconds until the next one is, or -1; leave answers what has come, and closes each once that is sent. */
 extern int tcp_count;
 void tcp_accept(struct watch *listener);
 int tcp_expire(void);
+void tcp_leave(void);
 
-/* Tells what is wrong in a line on the standard error; -1. */
-#define complain(...) (warnx(__VA_ARGS__), -1)
+/* main.c: reload reads all files again: whether they are taken, and new workers have begun. write_status reports
+ * processes, and the last reload. end_all ends all, so that is_over. let_end lets SIGTERM and SIGINT end all at once,
+ * while something may take long, or makes them wait again. say_limits reports what failed, why, and the limits of the
+ * process. */
+extern bool is_over;
+bool reload(void);
+void write_status(int fd);
+bool end_all(void);
+void let_end(bool is_let);
+void say_limits(const char *what);

@@ -1,16 +1,22 @@
-/* zoned: sockets, processes and signals round the proved library zone_service. docs/ZONED.md says how it is started.
- * The parent opens the sockets, lets its privileges go, has the library read the files, and forks the workers, which
- * share what was read. It serves nothing itself. SIGHUP reads the files anew: where all are taken, new workers begin at
- * the same sockets, and the old ones end with their connections; else the old ones go on. A worker that ends by itself
- * is begun again. SIGTERM ends all. Before a worker comes the process that it asks, where zones have journals. */
+/* zoned: sockets, processes, files and signals around the proved library zone_service. docs/reference/zoned.md says how
+ * it is started. The parent opens the sockets, lets its privileges go, has the library read the files, and forks the
+ * workers, which share what was read. It serves nothing itself. SIGHUP reads the files again: if all are taken, new
+ * workers begin at the same sockets, and the old ones end after the replies at hand; else the old ones go on. A worker
+ * that ends by itself is begun again. SIGTERM ends all. If zones have journals, there is one worker, which opens them
+ * once the one before it has closed them. */
 #include "host.h"
+
+#define SECOND 1000 /* milliseconds */
 
 static struct worker {
     struct sockets sockets;
-    pid_t pid; /* 0 or less where there is none */
+    pid_t pid, old; /* the process, and the one before, which is to end; 0 or less if there is none */
 } workers[MOST_WORKERS];
-static int running;  /* how many workers there are */
-static time_t begun; /* when they last were */
+static int running;                      /* how many workers there are */
+static uint64_t started, begun, retired; /* when the first one began, one last began, and was last to end */
+static char **arguments;
+static char failure[sizeof said]; /* why the last reload failed, if it did */
+bool is_over;
 
 /* Tells systemd, where it asked (sd_notify(3)). */
 static void notify(const char *text) {
@@ -45,104 +51,277 @@ static void leave_sockets(const struct worker *but) {
                 close(it->sockets.all[i].fd);
 }
 
-/* Begins the workers that are missing, or has new ones take the place of all: whether each could begin. Where one could
- * not, SIGALRM has it tried again. A zone that takes updates is in one process: no connection goes on with another. */
-static bool begin(bool is_anew) {
-    bool could = true;
+void say_limits(const char *what) {
+    const char *why = strerror(errno);
+    struct rlimit processes, files, memory;
+    getrlimit(RLIMIT_NPROC, &processes);
+    getrlimit(RLIMIT_NOFILE, &files);
+    getrlimit(RLIMIT_AS, &memory);
+    say("%s: %s (limits, -1 for none: %jd processes of this user, %jd descriptors, %jd bytes of memory)", what, why,
+        (intmax_t)processes.rlim_cur, (intmax_t)files.rlim_cur, (intmax_t)memory.rlim_cur);
+}
+
+/* Makes a worker end. One that was to end before is killed, so that there are never more than two generations. */
+static void retire(struct worker *worker) {
+    if (worker->old > 0)
+        kill(worker->old, SIGKILL);
+    kill(worker->pid, SIGTERM);
+    worker->old = worker->pid;
+    worker->pid = 0;
+    retired = milliseconds(CLOCK_MONOTONIC);
+}
+
+/* Becomes a worker. The parent hears once it has opened the journals, or why it has not. */
+static _Noreturn void become(struct worker *worker, struct settings *before, pid_t parent, const int ready[2]) {
+    prctl(PR_SET_PDEATHSIG, SIGTERM);
+    signal(SIGTERM, SIG_DFL);
+    signal(SIGINT, SIG_DFL);
+    close(ready[0]);
+    close(control);
+    leave_sockets(worker);
+    forget(before);
+    let_end(true);
+    bool is_ready = journals_open(worker->old > 0 ? 2 * LAST_SECONDS : 2) == 0;
+    let_end(false);
+    is_ready &= write(ready[1], said, is_ready ? 1 : strlen(said)) > 0;
+    close(ready[1]);
+    _exit(is_ready && getppid() == parent ? work(&worker->sockets) : 1);
+}
+
+/* Waits until a worker is ready: whether it is. The one before is killed if it keeps the journals for too long. */
+static bool is_ready(struct worker *worker, int told) {
+    struct pollfd it = {.fd = told, .events = POLLIN};
+    let_end(true);
+    if (poll(&it, 1, (LAST_SECONDS + 1) * SECOND) == 0 && worker->old > 0)
+        kill(worker->old, SIGKILL);
+    ssize_t got = read(told, said, sizeof said - 1);
+    let_end(false);
+    said[got > 0 ? got : 0] = 0;
+    if (got <= 0)
+        say("a worker did not begin");
+    return got == 1 && *said == 0;
+}
+
+/* Begins a worker, which forgets the settings of before: whether it is ready. */
+static bool begin_one(struct worker *worker, struct settings *before) {
+    int ready[2] = {-1, -1};
     pid_t parent = getpid();
+    *said = 0;
+    begun = milliseconds(CLOCK_MONOTONIC);
+    worker->pid = pipe2(ready, O_CLOEXEC) == 0 ? fork() : -1;
+    if (worker->pid == 0)
+        become(worker, before, parent, ready);
+    if (worker->pid < 0)
+        say_limits("cannot begin a worker");
+    close(ready[1]);
+    bool is = worker->pid > 0 && is_ready(worker, ready[0]);
+    close(ready[0]);
+    worker->pid = is ? worker->pid : 0;
+    return is;
+}
+
+/* Begins the workers that are missing, or puts new ones into the place of all, which forget the settings of before, if
+ * these are given: whether each could begin. SIGALRM tries again what could not. It waits a second at most until those
+ * before take no more messages. */
+static bool begin(bool is_anew, struct settings *before) {
+    bool could = true;
+    int tries = SECOND;
+    uint64_t left = __atomic_load_n(&shared->left, __ATOMIC_ACQUIRE);
     for (struct worker *worker = workers; worker < workers + running; worker++) {
-        if (worker->pid > 0 && !is_anew)
-            continue;
-        if (worker->pid > 0)
-            kill(worker->pid, given("--allow-update") != NULL ? SIGKILL : SIGTERM);
-        begun = time(NULL);
-        worker->pid = relay_begin() == 0 ? fork() : -1;
-        if (worker->pid == 0) {
-            prctl(PR_SET_PDEATHSIG, SIGTERM);
-            leave_sockets(worker);
-            _exit(getppid() == parent ? work(&worker->sockets) : 0);
+        if (worker->pid > 0 && is_anew) {
+            retire(worker);
+            left++;
         }
-        relay_leave();
-        if (worker->pid < 0) {
-            warnx("cannot begin a worker");
-            alarm(1);
-            could = false;
-        }
+        if (worker->pid <= 0)
+            could &= begin_one(worker, before);
     }
+    if (!could)
+        alarm(1);
+    while (is_anew && __atomic_load_n(&shared->left, __ATOMIC_ACQUIRE) < left && tries-- > 0)
+        poll(NULL, 0, 1);
     return could;
 }
 
-static void reload(char **arguments) {
-    struct settings *before = settings, *left;
+/* Without journals nothing can be wrong once the files are read, so the zones of before go first, and no worker has
+ * both. With them the new worker may not begin. */
+bool reload(void) {
+    char text[sizeof said + 64];
+    struct settings *before = settings;
     notify("RELOADING=1\n");
-    bool is_read = read_arguments(arguments) == 0 && load() == 0, is_taken = is_read && begin(true);
-    left = is_taken ? before : settings;
+    let_end(true);
+    bool is_read = read_arguments(arguments) == 0 && load() == 0, is_taken;
+    let_end(false);
+    if (is_read && given("--journal") == NULL) {
+        forget(before);
+        before = NULL;
+    }
+    is_taken = is_read && (begin(true, before) || before == NULL);
+    snprintf(failure, sizeof failure, "%s", is_taken ? "" : said);
+    struct settings *left = is_taken ? before : settings;
     settings = is_taken ? settings : before;
     if (is_read && !is_taken) {
         warnx("the settings of before hold again");
-        begin(true);
+        begin(true, left);
     }
     forget(left);
-    notify("READY=1\n");
+    memcpy(said, failure, sizeof said);
+    snprintf(text, sizeof text, "STATUS=%s%s\nREADY=1\n", is_taken ? "" : "The last reload failed: ", failure);
+    notify(text);
+    return is_taken;
 }
 
-static void replace_ended(void) {
-    for (int ended, status; (ended = waitpid(-1, &status, WNOHANG)) > 0;) {
-        if (ended == serving) {
-            warnx("zone_serve ended");
-            serving = 0;
-            settings->is_unwritten |= TELLS_UNWRITTEN(status);
-            if (workers[0].pid > 0)
-                kill(workers[0].pid, SIGKILL);
-        }
-        for (int i = 0; i < running; i++)
-            if (workers[i].pid == ended) {
-                warnx("worker %d ended", i);
-                workers[i].pid = 0;
-            }
+void write_status(int fd) {
+    dprintf(fd, "zoned %s: process %d, for %ju seconds\n", ZONED_VERSION, getpid(),
+            (uintmax_t)(milliseconds(CLOCK_MONOTONIC) - started) / SECOND);
+    for (int i = 0; i < running; i++)
+        dprintf(fd, "worker %d: process %d\n", i, workers[i].pid);
+    dprintf(fd, "the last reload: %s\n", *failure != 0 ? failure : "nothing is wrong");
+}
+
+/* Notes the end of a child, if one has ended: its number, or what waitpid(2) says. */
+static pid_t note_end(bool is_told) {
+    pid_t ended = waitpid(-1, NULL, WNOHANG);
+    for (int i = 0; ended > 0 && i < running; i++) {
+        if (workers[i].pid == ended && is_told)
+            warnx("worker %d ended", i);
+        workers[i].pid = workers[i].pid == ended ? 0 : workers[i].pid;
+        workers[i].old = workers[i].old == ended ? 0 : workers[i].old;
     }
-    /* (once in a second of the clock; the parent waits by SIGALRM, so that it hears of its end) */
-    if (time(NULL) == begun)
+    return ended;
+}
+
+/* Sends a signal to all workers, also to those that are to end. */
+static void signal_all(int number) {
+    for (const struct worker *it = workers; it < workers + running; it++) {
+        if (it->pid > 0)
+            kill(it->pid, number);
+        if (it->old > 0)
+            kill(it->old, number);
+    }
+}
+
+/* Kills the workers that were to end and have not. */
+static void kill_late(void) {
+    bool is_late = milliseconds(CLOCK_MONOTONIC) > retired + (LAST_SECONDS + 1) * SECOND;
+    for (const struct worker *it = workers; it < workers + running; it++)
+        if (it->old > 0 && is_late)
+            kill(it->old, SIGKILL);
+        else if (it->old > 0)
+            alarm(1);
+}
+
+/* Begins workers that ended by themselves, at most once a second. */
+static void replace_ended(void) {
+    while (note_end(true) > 0)
+        ;
+    /* (the parent waits by SIGALRM, so that it hears of its own end) */
+    if (milliseconds(CLOCK_MONOTONIC) < begun + SECOND)
         alarm(1);
     else
-        begin(false);
+        begin(false, NULL);
 }
 
-int main(int count __attribute__((unused)), char **arguments) {
+/* Waits until all children have ended, at most so many seconds: whether they have. */
+static bool have_ended(int seconds) {
+    static const struct timespec step = {.tv_nsec = 10000000};
+    uint64_t end = milliseconds(CLOCK_MONOTONIC) + (uint64_t)seconds * SECOND;
+    pid_t ended;
+    while ((ended = note_end(false)) >= 0 && milliseconds(CLOCK_MONOTONIC) < end)
+        nanosleep(&step, NULL);
+    return ended < 0;
+}
+
+/* Ends all: the workers after the replies at hand, and what has not ended by then at once. It calls only what
+ * signal-safety(7) lists, since it may come while files are read. */
+bool end_all(void) {
+    is_over = true;
+    notify("STOPPING=1\n");
+    leave_sockets(NULL);
+    close(statistics);
+    close(control);
+    signal_all(SIGTERM);
+    if (!have_ended(LAST_SECONDS)) {
+        signal_all(SIGKILL);
+        have_ended(1);
+    }
+    return true;
+}
+
+static void end_now(int number __attribute__((unused))) {
+    end_all();
+    _exit(0);
+}
+
+void let_end(bool is_let) {
+    sigset_t ends;
+    sigemptyset(&ends);
+    sigaddset(&ends, SIGTERM);
+    sigaddset(&ends, SIGINT);
+    sigprocmask(is_let ? SIG_UNBLOCK : SIG_BLOCK, &ends, NULL);
+}
+
+/* Opens descriptors 0 to 2 if they are closed, so that no socket is one of them. Takes as many descriptors as the
+ * system allows. A write to a pipe that nobody reads, or beyond the limit of files, fails then, and ends nothing. */
+static void prepare(void) {
+    struct rlimit files;
+    int fd = 0;
+    while (fd >= 0 && fd <= 2)
+        fd = open("/dev/null", O_RDWR);
+    close(fd);
+    if (getrlimit(RLIMIT_NOFILE, &files) == 0) {
+        files.rlim_cur = files.rlim_max;
+        setrlimit(RLIMIT_NOFILE, &files);
+    }
+    signal(SIGPIPE, SIG_IGN);
+    signal(SIGXFSZ, SIG_IGN);
+    program_invocation_short_name = "zoned";
+}
+
+/* Waits for a signal, and answers zonedctl meanwhile: whether this is to end all. */
+static bool is_to_end(int signals) {
+    struct pollfd both[] = {{.fd = signals, .events = POLLIN}, {.fd = control, .events = POLLIN}};
+    struct signalfd_siginfo it = {.ssi_signo = 0};
+    poll(both, 2, -1);
+    if (both[1].revents != 0)
+        control_answer();
+    if (!is_over && read(signals, &it, sizeof it) == sizeof it && it.ssi_signo == SIGHUP)
+        reload();
+    return is_over || it.ssi_signo == SIGTERM || it.ssi_signo == SIGINT;
+}
+
+int main(int count __attribute__((unused)), char **words) {
     static const int awaited[] = {SIGHUP, SIGTERM, SIGINT, SIGCHLD, SIGALRM};
     sigset_t signals;
     sigemptyset(&signals);
     for (size_t i = 0; i < sizeof awaited / sizeof *awaited; i++)
         sigaddset(&signals, awaited[i]);
     sigprocmask(SIG_BLOCK, &signals, NULL);
-    signal(SIGPIPE, SIG_IGN); /* a write to a pipe that nobody reads fails, and ends nothing */
-    program_invocation_short_name = "zoned";
+    prepare();
+    arguments = words;
     if (read_arguments(arguments) != 0)
         return 2;
     if (settings->is_check)
-        return load() != 0;
+        return (let_end(true), load() != 0);
     running = settings->numbers[WORKERS];
-    for (int i = 0; i < running; i++)
-        if (open_sockets(&workers[i].sockets) != 0)
+    for (int i = -1; i < running; i++)
+        if (open_sockets(i < 0 ? NULL : &workers[i].sockets) != 0)
             return 1;
+    const struct sigaction ends = {.sa_handler = end_now, .sa_mask = signals};
+    sigaction(SIGTERM, &ends, NULL);
+    sigaction(SIGINT, &ends, NULL);
+    let_end(true);
     /* The files are read without privileges, as they will be at a reload. */
-    if (let_privileges_go() != 0 || load() != 0 || statistics_begin() != 0 || !begin(true))
+    if (let_privileges_go() != 0 || load() != 0)
+        return 1;
+    let_end(false);
+    started = milliseconds(CLOCK_MONOTONIC);
+    if (share() != 0 || listen_at("--statistics", 0, &statistics) != 0 || listen_at("--control", 0660, &control) != 0 ||
+        !begin(true, NULL))
         return 1;
     notify("READY=1\n");
-    for (int came = 0; came != SIGTERM && came != SIGINT;) {
-        came = sigwaitinfo(&signals, NULL);
-        if (came == SIGHUP)
-            reload(arguments);
-        else if (came == SIGCHLD || came == SIGALRM)
-            replace_ended();
-    }
-    notify("STOPPING=1\n");
-    leave_sockets(NULL);
-    close(statistics);
-    for (int i = 0; i < running; i++)
-        if (workers[i].pid > 0)
-            kill(workers[i].pid, SIGTERM);
-    while (wait(NULL) > 0)
-        ;
+    for (int fd = signalfd(-1, &signals, SFD_CLOEXEC | SFD_NONBLOCK); !is_to_end(fd); kill_late())
+        replace_ended();
+    if (!is_over)
+        end_all();
     return 0;
 }

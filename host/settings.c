@@ -1,14 +1,24 @@
-/* What zoned is told, by its arguments and a configuration file, and the server that the proved library makes of it. */
+/* The arguments and the configuration file of zoned, and the server that the proved library makes of them. */
 #include "host.h"
 
-#define CHUNK (1 << 20)
 #define WRONG "wrong arguments; zoned --help says how it is started"
+#define NO_ROOM "more settings than there is room for" /* a fault of zone_service_read_settings */
+#define STEP 1024                                      /* options for which memory is taken at a time */
 
 struct settings *settings;
+char said[512];
 
-/* In the order in which the library is told of them. */
+void say(const char *format, ...) {
+    va_list words;
+    va_start(words, format);
+    vsnprintf(said, sizeof said, format, words);
+    va_end(words);
+    warnx("%s", said);
+}
+
+/* In the order in which the library gets them. */
 static const struct option options[] = {
-    {"--listen", "ADDRESS[@PORT], over UDP and TCP; port 53", .is_own = true},
+    {"--listen", "ADDRESS[@PORT], over UDP and TCP; port 53", .set = NULL},
     {"--blocklist", "FILE of names that are blocked, a line each", .set = zone_service_set_blocklist, .is_file = true},
     {"--keys", "FILE of the keys that sign messages (TSIG)", .set = zone_service_set_keys, .is_file = true},
     {"--nsid", "TEXT that identifies this server", .set = zone_service_set_identifier},
@@ -21,11 +31,11 @@ static const struct option options[] = {
     {"--zone", "NAME=FILE: the zone at NAME, from a zone file", .set_pair = zone_service_add_zone, .is_file = true},
     {"--allow-update", "'ZONE=KEY [zone|subdomain NAME|name NAME|self] [TYPE..]': who may update what",
      .set_pair = zone_service_allow_update},
-    {"--journal", "NAME=FILE: the updates of the zone at NAME are kept in FILE, by zone_serve", .is_own = false},
-    {"--zone-serve", "PATH of that program; the one that PATH finds", .is_own = true},
-    {"--statistics", "PATH of a Unix socket where it tells what it has done", .is_own = true},
-    {"--query-log", "PATH of a file to which a line for each query is put", .is_own = true},
-    {"--user", "NAME of the user that it becomes once its sockets are open", .is_own = true},
+    {"--journal", "NAME=FILE: the updates of the zone at NAME are kept in FILE and FILE-wal", .set = NULL},
+    {"--control", "PATH of a Unix socket where zonedctl asks it", .set = NULL},
+    {"--statistics", "PATH of a Unix socket where it tells what it has done", .set = NULL},
+    {"--query-log", "PATH of a file to which a line for each query is put", .set = NULL},
+    {"--user", "NAME of the user that it becomes once its sockets are open", .set = NULL},
     {"--query-log-every", "of so many queries one has a line", .number = LOG_EVERY, 1, 1000000, 1},
     {"--max-udp", "bytes of a reply over UDP at most", .number = MAX_UDP, 512, 65535, 1232},
     {"--rate-limit", "replies over UDP a second to a network of clients, 0 for all", .number = RATE, 0, 1000000, 0},
@@ -52,18 +62,30 @@ static void help(void) {
     exit(0);
 }
 
+/* Keeps the text of an option: 0, or -1. */
+static int keep(const struct option *option, const char *text) {
+    struct given *more = settings->given;
+    if (settings->count % STEP == 0)
+        more = realloc(more, (size_t)(settings->count + STEP) * sizeof *more);
+    if (more != NULL)
+        settings->given = more;
+    char *copy = more != NULL ? strdup(text) : NULL;
+    if (copy == NULL)
+        return complain("no memory");
+    settings->given[settings->count++] = (struct given){option, copy};
+    return 0;
+}
+
 /* Takes an option, of its name without dashes. */
 static int put_option(const char *name, const char *text) {
     const struct option *o = options;
     char *rest;
     while (o->name != NULL && strcmp(name, o->name + 2) != 0)
         o++;
-    if (o->name == NULL || text == NULL || settings->count == MOST_GIVEN)
+    if (o->name == NULL || text == NULL)
         return complain(WRONG);
-    if (o->number == NO_NUMBER) {
-        settings->given[settings->count++] = (struct given){o, text};
-        return 0;
-    }
+    if (o->number == NO_NUMBER)
+        return keep(o, text);
     long n = strtol(text, &rest, 10);
     if (rest == text || *rest != 0 || n < o->least || n > o->most)
         return complain("%s: not a number from %d to %d", text, o->least, o->most);
@@ -71,18 +93,30 @@ static int put_option(const char *name, const char *text) {
     return 0;
 }
 
-/* The bytes of a file, or NULL. */
-static uint8_t *read_file(const char *path, size_t *len) {
-    int fd = open(path, O_RDONLY | O_CLOEXEC);
+uint8_t *read_all(int fd, size_t *len) {
+    struct stat is = {.st_size = 0};
     uint8_t *bytes = NULL, *more;
-    ssize_t got = fd < 0 ? -1 : 1;
-    for (*len = 0; got > 0 && (more = realloc(bytes, *len + CHUNK)) != NULL; *len += got > 0 ? (size_t)got : 0)
-        got = read(fd, (bytes = more) + *len, CHUNK);
-    close(fd);
+    ssize_t got = fstat(fd, &is) == 0 ? 1 : -1;
+    size_t step = (size_t)is.st_size + 1;
+    for (*len = 0; got > 0 && (more = realloc(bytes, *len + step)) != NULL; *len += got > 0 ? (size_t)got : 0)
+        got = read(fd, (bytes = more) + *len, step);
     if (got == 0)
         return bytes;
     free(bytes);
-    return (warnx("%s: cannot be read", path), NULL);
+    return NULL;
+}
+
+/* The bytes of a file, or NULL. It must be a regular file, since to open or read another one may take forever. */
+static uint8_t *read_file(const char *path, size_t *len) {
+    struct stat is;
+    int fd = open(path, O_RDONLY | O_CLOEXEC | O_NONBLOCK);
+    bool is_other = fd >= 0 && fstat(fd, &is) == 0 && !S_ISREG(is.st_mode);
+    uint8_t *bytes = fd < 0 || is_other ? NULL : read_all(fd, len);
+    if (bytes == NULL)
+        say("%s: cannot be read: %s", path, is_other ? "it is not a regular file" : strerror(errno));
+    if (fd >= 0)
+        close(fd);
+    return bytes;
 }
 
 /* What the library says of a setting: why it is not taken, or of a list of blocked names what of it was skipped. */
@@ -92,43 +126,85 @@ static size_t fault_len;
 
 static int told(const char *what, uint32_t set) {
     if (set != ZONE_SERVICE_DONE || fault_len > 0)
-        warnx("%s: %.*s", what, (int)fault_len, (const char *)fault);
+        say("%s: %.*s", what, (int)fault_len, (const char *)fault);
     return set == ZONE_SERVICE_DONE ? 0 : -1;
 }
 
-/* Takes the settings of a configuration file, which the library reads: names and values, with a zero behind each. */
-static int read_config(const char *path) {
+/* The names of all options, with a zero after each. */
+static const uint8_t *option_names(size_t *len) {
     static uint8_t names[512];
-    size_t len, names_len = 0, put = 0;
-    uint8_t *text = read_file(path, &len);
-    char *at = settings->room + settings->used;
-    if (text == NULL)
-        return -1;
+    *len = 0;
     for (const struct option *o = options; o->name != NULL; o++)
-        names_len += strlen(strcpy((char *)names + names_len, o->name + 2)) + 1;
-    int wrong = told(path, zone_service_read_settings(names, names_len, text, len, (uint8_t *)at,
-                                                      sizeof settings->room - settings->used, &put, FAULT));
+        *len += strlen(strcpy((char *)names + *len, o->name + 2)) + 1;
+    return names;
+}
+
+/* What the library reads in a configuration file: names and values, with a zero after each, or NULL. How much room they
+ * need is not known before. */
+static char *read_settings(const char *path, const uint8_t *text, size_t len, size_t *put) {
+    size_t names_len, room = 4096 + len;
+    const uint8_t *names = option_names(&names_len);
+    char *read = NULL;
+    uint32_t is = ZONE_SERVICE_MEMORY;
+    do {
+        free(read);
+        room *= 2;
+        fault_len = 0;
+        if ((read = malloc(room)) != NULL)
+            is = zone_service_read_settings(names, names_len, text, len, (uint8_t *)read, room, put, FAULT);
+    } while (fault_len == sizeof NO_ROOM - 1 && memcmp(fault, NO_ROOM, fault_len) == 0);
+    if (read == NULL)
+        say("%s: no memory for its settings", path);
+    else if (told(path, is) == 0)
+        return read;
+    free(read);
+    return NULL;
+}
+
+/* Takes the settings of a configuration file. */
+static int read_config(const char *path) {
+    size_t len, put = 0;
+    uint8_t *text = read_file(path, &len);
+    char *read = text != NULL ? read_settings(path, text, len, &put) : NULL;
+    int wrong = read == NULL ? -1 : 0;
     free(text);
-    for (settings->used += put; !wrong && at < settings->room + settings->used; at += strlen(at) + 1) {
+    for (char *at = read; !wrong && at < read + put; at += strlen(at) + 1) {
         const char *name = at;
         wrong = put_option(name, at += strlen(at) + 1);
     }
+    free(read);
     return wrong;
+}
+
+/* The length of the zone's name that a text begins with, without the dot at its end. */
+static size_t name_length(const char *text) {
+    size_t len = strcspn(text, "=");
+    return len > 1 && text[len - 1] == '.' ? len - 1 : len;
+}
+
+/* Whether no journal keeps the updates that this option allows, if it allows any. */
+static bool is_lost(const struct given *rule) {
+    size_t len = name_length(rule->text);
+    bool is = strcmp(rule->option->name, "--allow-update") == 0;
+    for (const struct given *g = settings->given; is && g < settings->given + settings->count; g++)
+        is = strcmp(g->option->name, "--journal") != 0 || name_length(g->text) != len ||
+             strncasecmp(g->text, rule->text, len) != 0;
+    return is;
 }
 
 /* Whether options go together: 0, or -1. */
 static int agree(void) {
-    bool has_updates = given("--allow-update") != NULL, has_journal = given("--journal") != NULL;
+    bool has_updates = given("--allow-update") != NULL, has_journal = given("--journal") != NULL, loses = false;
     bool listens = given("--listen") != NULL, is_adopted = adopted_sockets() > 0;
+    for (const struct given *g = settings->given; !loses && g < settings->given + settings->count; g++)
+        loses = is_lost(g);
     if (given("--zone") == NULL || (listens && is_adopted) || (!listens && !is_adopted && !settings->is_check))
         return complain(WRONG);
     if (has_updates && settings->numbers[WORKERS] > 1)
         return complain("--allow-update wants one worker, since of several one alone would see an update");
-    if (has_updates)
+    if (loses)
         warnx("updates %sare lost when it ends, and when files are read anew",
               has_journal ? "of zones without a journal " : "");
-    if (has_journal && (given("--query-log") != NULL || settings->numbers[RATE] > 0))
-        return complain("--journal has zone_serve answer, which has no --query-log or --rate-limit");
     return 0;
 }
 
@@ -173,18 +249,30 @@ static int set(zone_service *service, const struct option *o, const char *text) 
 int load(void) {
     const int *n = settings->numbers;
     zone_service *service = &settings->service;
-    if (zone_service_create(&service->at) != ZONE_SERVICE_DONE)
+    settings->has_failed =
+        mmap(NULL, (size_t)settings->count, PROT_READ | PROT_WRITE, MAP_SHARED | MAP_ANONYMOUS, -1, 0);
+    if (settings->has_failed == MAP_FAILED || zone_service_create(&service->at) != ZONE_SERVICE_DONE)
         return complain("no memory");
     int wrong = told("--max-udp", zone_service_set_max_udp(service, (uint16_t)n[MAX_UDP], FAULT)) ||
                 told("--rate-limit", zone_service_set_rate_limit(service, (uint32_t)n[RATE], (uint32_t)n[SLIP], FAULT));
     for (const struct option *o = options; o->name != NULL; o++)
         for (const struct given *g = settings->given; !wrong && g < settings->given + settings->count; g++)
             wrong = g->option == o && (o->set != NULL || o->set_pair != NULL) && set(service, o, g->text);
-    return wrong ? -1 : told("the zones", zone_service_serve_zones(service, FAULT));
+    wrong = wrong ? -1 : told("the zones", zone_service_serve_zones(service, FAULT));
+    malloc_trim(0);
+    return wrong;
 }
 
 void forget(struct settings *old) {
-    if (old != NULL && old->service.at != NULL)
+    if (old == NULL)
+        return;
+    if (old->service.at != NULL)
         zone_service_free(old->service);
+    if (old->has_failed != NULL)
+        munmap(old->has_failed, (size_t)old->count);
+    for (int i = 0; i < old->count; i++)
+        free(old->given[i].text);
+    free(old->given);
     free(old);
+    malloc_trim(0);
 }

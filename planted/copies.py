@@ -13,13 +13,17 @@ import holes
 import twins
 import verdicts
 
-# The groups of the processes that run now, each of which ends with this driver, and whether it is about to end.
-running, ending = set(), threading.Event()
+# The groups of the processes that run now, each of which ends with this driver; whether it is about to end; and whether its time to try edits is over.
+running, ending, is_late = set(), threading.Event(), threading.Event()
 
 
-def end_all():
+class Late(Exception):
+    """The time to try edits is over."""
+
+
+def end_all(why=ending):
     """Ends all checks that still run, and starts no other."""
-    ending.set()
+    why.set()
     for group in list(running):
         try:
             os.killpg(group, signal.SIGKILL)
@@ -31,11 +35,15 @@ def output_in(folder, words):
     """Runs a command in a folder, and returns what it says and the status it ends with."""
     if ending.is_set():
         sys.exit(1)
+    if is_late.is_set():
+        raise Late
     how = {"stdin": subprocess.DEVNULL, "stdout": subprocess.PIPE, "stderr": subprocess.STDOUT, "errors": "replace"}
     with subprocess.Popen(words, cwd=folder, start_new_session=True, **how) as ran:
         running.add(ran.pid)
         output = ran.stdout.read()
     running.discard(ran.pid)
+    if is_late.is_set():
+        raise Late
     return output, ran.returncode
 
 

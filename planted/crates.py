@@ -76,13 +76,15 @@ def edits_of(name):
     return read(f"{ROOT}/planted/{name}.edits")
 
 
-def sum_of(name):
-    """Returns the state in which all edits of a crate were refused last, as the first line of their file has it."""
-    return edits_of(name).partition("\n")[0].removeprefix("sum:").strip()
+def sums_of(name):
+    """Returns the two sums in the first line of a crate's file of wrong edits, `none` for each that it does not have. They are what `states_of` returned when
+    all edits of the crate were refused last."""
+    words = edits_of(name).partition("\n")[0].removeprefix("sum:").split()
+    return tuple([*words, "none", "none"][:2])
 
 
-def write_sum(name, state):
-    write(f"{ROOT}/planted/{name}.edits", f"sum: {state}\n" + edits_of(name).partition("\n")[2])
+def write_sums(name, own_sum, below_sum):
+    write(f"{ROOT}/planted/{name}.edits", f"sum: {own_sum} {below_sum}\n" + edits_of(name).partition("\n")[2])
 
 
 def logic():
@@ -103,21 +105,48 @@ def statements_of(name, is_whole):
     return [it for it in found if os.path.basename(it) not in PROOFS]
 
 
+def sum_over(words, paths):
+    """Returns a sum of these words, and of the paths and contents of these files."""
+    whole = hashlib.sha256(repr(words).encode())
+    for it in paths:
+        with open(it, "rb") as file:
+            whole.update(repr((os.path.relpath(it, ROOT), file.read())).encode())
+    return whole.hexdigest()
+
+
 def state_of(name):
-    """Returns a sum of all that decides how a crate's edits are answered: its text and its row, the rows of the crates below and what these state, its edits,
-    the version of this driver's verdicts, and the logic; or None where they cannot be tried."""
+    """Returns a sum of all that decides how a crate's edits are answered, except its libraries: its text, its row, its edits, the version of this driver's
+    verdicts, and the logic. It is None if crates.txt has no such crate."""
+    table = rows()
+    if name not in table:
+        return None
+    words = logic(), VERSION, table[name], edits_of(name).partition("\n")[2]
+    return sum_over(words, [it for part in PARTS for it in files_in(f"{ROOT}/crates/{name}/{part}")])
+
+
+def state_below(name):
+    """Returns a sum of what the libraries below a crate state to it, and of their rows. It is None if one of them is not built, or crates.txt has no such
+    crate."""
     if lacks(name):
         return None
     table = rows()
-    whole = hashlib.sha256(f"{logic()} {VERSION} ".encode() + edits_of(name).partition("\n")[2].encode())
-    paths = [it for part in PARTS for it in files_in(f"{ROOT}/crates/{name}/{part}")]
-    paths += [path for it in below(name, table) for path in statements_of(it, links_code(name, table[name]))]
-    for it in [*below(name, table), name]:
-        whole.update(repr((it, table[it])).encode())
-    for path in paths:
-        with open(path, "rb") as file:
-            whole.update(repr((os.path.relpath(path, ROOT), file.read())).encode())
-    return whole.hexdigest()
+    libraries, is_whole = below(name, table), links_code(name, table[name])
+    return sum_over([(it, table[it]) for it in libraries], [path for it in libraries for path in statements_of(it, is_whole)])
+
+
+def states_of(name):
+    """Returns both sums as they are now: of what is the crate's own, and of what the libraries below it state."""
+    return state_of(name), state_below(name)
+
+
+def is_trusted(name):
+    """Whether nothing of a crate's own has changed since all its edits were refused."""
+    return state_of(name) == sums_of(name)[0]
+
+
+def is_stale(name):
+    """Whether the libraries below a crate may state something else than when all its edits were refused: their sum is another, or it is not known."""
+    return state_below(name) != sums_of(name)[1]
 
 
 def library(name):

@@ -5,7 +5,7 @@ from dataclasses import dataclass, field
 from functions import functions_in, module_of
 
 # A heading names a file of src/ and a function of it, without the module's path where it begins with that; below it are edits of that function.
-HEADING = re.compile(r"## (src/\S+\.rt)(?:: (\S+))?")
+HEADING = re.compile(r"file: (src/\S+\.rt)(?:, function: (\S+))?")
 EDIT = re.compile(r"((?:# .+\n)+)(\w+)\n((?:- .+\n\+(?: .*)?(?:\n|$))+)((?:refused at: \S+(?:\n|$))*)")
 PAIR = re.compile(r"^- (.+)\n\+ ?(.*)$", re.M)
 
@@ -90,7 +90,7 @@ def edits_in(text, texts):
             found.append(read_edit(words, path, heading, texts, functions))
             seen.add(edit[2])
         else:
-            fault = "an earlier edit has its name" if edit else "it is neither a heading `## src/FILE: FUNCTION` nor an edit of the form that README.md has"
+            fault = "an earlier edit has its name" if edit else "it is neither a heading `file: src/FILE, function: FUNCTION` nor an edit of the form that README.md has"
             found.append(Edit(block.partition("\n")[0], fault=fault))
     return found
 

@@ -1,4 +1,4 @@
-"""A sample of the edits that are trusted, so that a sum which holds no more is found."""
+"""A sample of the edits that are trusted, to find an edit that the prover no longer refuses."""
 import hashlib
 import subprocess
 
@@ -14,6 +14,11 @@ def seed():
         return crates.output_of("git", "-C", crates.ROOT, "rev-parse", "HEAD")
     except (OSError, subprocess.CalledProcessError):
         return hashlib.sha256("".join(map(crates.edits_of, crates.with_edits())).encode()).hexdigest()
+
+
+def pool(trusted, stale, most):
+    """Returns the edits to draw `most` from, by crate: those of the stale crates if they are as many, else those of all trusted crates."""
+    return stale if sum(map(len, stale.values())) >= most else trusted
 
 
 def drawn(have, most, by):

@@ -1,5 +1,5 @@
-/* answer NAME FILE: answers the DNS message on standard input, as it came from 192.0.2.1 over UDP, by the zone of this name and file, and writes
- * the reply. The status is 1 where there is none. */
+/* answer NAME FILE: answers the DNS message on the standard input by the zone of this name and file, and writes the reply.
+ * The message counts as one from 192.0.2.1 over UDP. The status is 1 if it gets no reply. */
 #include "zone_service.h"
 
 #include <stdio.h>
@@ -27,10 +27,10 @@ static int answer(zone_service *service)
 {
     const uint8_t source[4] = {192, 0, 2, 1};
     size_t written, waiting, len = fread(message, 1, sizeof message, stdin);
-    uint32_t told = zone_service_answer(service, message, len, source, sizeof source, 53000, false, (uint64_t)time(NULL), out, sizeof out,
-                                        &written, &waiting);
-    /* Its length stands before the reply; a datagram has none. */
-    return told == ZONE_SERVICE_DONE && fwrite(out + 2, 1, written - 2, stdout) == written - 2 ? 0 : 1;
+    uint32_t status = zone_service_answer(service, message, len, source, sizeof source, 53000, false, (uint64_t)time(NULL), out,
+                                          sizeof out, &written, &waiting);
+    /* A reply is written after its length in two bytes. A datagram has no length. */
+    return status == ZONE_SERVICE_DONE && fwrite(out + 2, 1, written - 2, stdout) == written - 2 ? 0 : 1;
 }
 
 int main(int argc, char **argv)

@@ -17,7 +17,7 @@ fn main() -> Result<(), Box<dyn std::error::Error>> {
         let (len, source) = socket.recv_from(&mut message)?;
         let now = SystemTime::now().duration_since(UNIX_EPOCH)?.as_secs();
         if let Ok(written) = service.answer(&message[..len], source, Transport::Datagram, now, &mut out) {
-            // Its length stands before the reply; a datagram has none.
+            // A reply is written after its length in two bytes. A datagram has no length.
             let _ = socket.send_to(&out[2..written.len], source);
         }
     }

@@ -65,7 +65,7 @@ pub enum Refusal {
     Denied,
     /// It is itself a response.
     Response,
-    /// Its bytes begin with no message (RFC 1035 section 4.1).
+    /// It is shorter than a header (RFC 1035 section 4.1.1).
     Unreadable,
     /// Memory was refused; the zones are as before.
     Memory,
@@ -252,7 +252,7 @@ impl ZoneService {
         Self::told(set, &fault, length)
     }
 
-    /// Adds the zone of this name from the text of its file. It is served by [`serve_zones`](Self::serve_zones).
+    /// Adds the zone of this name from the text of its file, and serves it from then on.
     #[rustfmt::skip]
     pub fn add_zone(&mut self, name: &str, text: &[u8]) -> Result<(), SettingFault> {
         let (mut fault, mut length) = ([0; 256], 0);
@@ -284,7 +284,7 @@ impl ZoneService {
         Self::told(set, &fault, length)
     }
 
-    /// Serves the zones that were added: each beside the one above it, if that is served too, which has its DS records (RFC 4035 section 3.1.4.1).
+    /// Gives the zones that were added their rules, by which they take updates. After the last zone and rule, once.
     pub fn serve_zones(&mut self) -> Result<(), SettingFault> {
         let (mut fault, mut length) = ([0; 256], 0);
         // SAFETY: the server is ours alone, and the slices are apart.

@@ -5,7 +5,7 @@ use hickory_base::access::{AccessControl, IpNet};
 use std::alloc::Global;
 use std::net::{IpAddr, Ipv4Addr};
 
-/// The network that five bytes tell: an IPv4 address, then how long the prefix is.
+/// The network that five bytes are: an IPv4 address, then how long the prefix is.
 fn network(bytes: &[u8]) -> Option<IpNet> {
     match bytes {
         [a, b, c, d, prefix_length] => {
@@ -15,7 +15,7 @@ fn network(bytes: &[u8]) -> Option<IpNet> {
     }
 }
 
-/// The access list that allows the networks that stand in bytes one behind the other.
+/// The access list that allows the networks that are in bytes one after the other.
 fn access_control(alloc: Global, networks: &[u8]) -> Option<AccessControl> {
     let mut access = AccessControl::new(alloc);
     for bytes in networks.chunks_exact(5) {
@@ -35,7 +35,7 @@ fn measured_allow(access: &AccessControl, address: IpAddr, rounds: u64) -> u64 {
     allowed
 }
 
-/// Whether an IPv4 address is allowed, where networks are allowed that stand in bytes one behind the other, each an
+/// Whether an IPv4 address is allowed, if networks are allowed that are in bytes one after the other, each an
 /// IPv4 address and the length of a prefix; answers in how many rounds it was.
 #[unsafe(no_mangle)]
 pub extern "C" fn bench_calls_allow(

@@ -53,7 +53,7 @@ fn measured_answer_request<H: ZoneHandler>(
     Some(())
 }
 
-/// Answers the request that bytes begin with, in each round anew, by this handler.
+/// Answers the request that bytes begin with, once in each round, by this handler.
 fn answer<H: ZoneHandler>(
     alloc: Global,
     origin: LowerName,
@@ -67,7 +67,7 @@ fn answer<H: ZoneHandler>(
     total
 }
 
-/// Answers the request that bytes begin with, in each round anew, by this catalog; how many bytes all replies had.
+/// Answers the request that bytes begin with, once in each round, by this catalog; how many bytes all replies had.
 fn answered<H: ZoneHandler>(
     alloc: Global,
     catalog: &mut Catalog<NoKeys, H>,
@@ -106,7 +106,7 @@ fn answer_transfer(alloc: Global, zone_bytes: &[u8], bytes: &[u8], rounds: u64) 
     answer(alloc, origin, handler, bytes, rounds)
 }
 
-/// Answers a request for a transfer of a zone, whose records are the answers of messages, each behind its length;
+/// Answers a request for a transfer of a zone, whose records are the answers of messages, each after its length;
 /// answers how many bytes all replies had.
 #[unsafe(no_mangle)]
 pub extern "C" fn bench_calls_answer_transfer(

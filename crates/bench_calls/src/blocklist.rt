@@ -1,7 +1,7 @@
 //! Lists of blocked names.
 
 use crate::WRONG;
-use crate::zones::lower_name;
+use crate::zone_names::lower_name;
 use hickory_base::zone_store::{LookupControlFlow, LookupOptions, ZoneHandler};
 use hickory_store::blocklist::{
     BlocklistConfig, BlocklistConsultAction, BlocklistZoneHandler, CountedReader,
@@ -21,7 +21,7 @@ fn blocklist(alloc: Global, text: &[u8]) -> Option<BlocklistZoneHandler> {
     list_of(alloc, text, BlocklistConfig::default())
 }
 
-/// A handler that blocks these names also where it is consulted about what a zone answers, as that of a served zone is.
+/// A handler that blocks these names also when it is consulted about what a zone answers, as that of a served zone is.
 pub(crate) fn consulted_list(alloc: Global, text: &[u8]) -> Option<BlocklistZoneHandler> {
     let mut config = BlocklistConfig::default();
     config.consult_action = BlocklistConsultAction::Enforce;

@@ -11,14 +11,15 @@ use hickory_catalog::catalog::Catalog;
 use hickory_server::server::{Answer, NoKeys, Rules, Server};
 use hickory_store::blocklist::BlocklistZoneHandler;
 use hickory_wire::{Items, LowerName, Octets, Protocol};
-use hickory_zone::AuthoritativeZone;
 use signed_server::SignedServer;
+use sqlite_disk::Memory;
 use std::alloc::Global;
 use std::mem;
 use tsig::Keys;
+use zones::Zone;
 
-/// A zone, or a list of blocked names behind it.
-type Filtered = Either<AuthoritativeZone, BlocklistZoneHandler>;
+/// A zone, or a list of blocked names after it.
+type Filtered = Either<Zone<NoKeys, Memory>, BlocklistZoneHandler>;
 
 /// How many bytes replies have together.
 fn total_len(replies: &Items<Octets>) -> u64 {
@@ -62,7 +63,7 @@ fn server<H: ZoneHandler>(
     SignedServer::new(alloc, server, Keys::new(alloc)).ok()
 }
 
-/// Serves a message, in each round anew, by the handlers of this zone.
+/// Serves a message, once in each round, by the handlers of this zone.
 fn serve_rounds<H: ZoneHandler>(
     alloc: Global,
     catalog: Catalog<NoKeys, H>,
@@ -78,7 +79,7 @@ fn serve_rounds<H: ZoneHandler>(
     total
 }
 
-/// Serves a message, in each round anew, by the zone of these records.
+/// Serves a message, once in each round, by the zone of these records.
 fn serve_zone(
     alloc: Global,
     zone: &[u8],
@@ -96,7 +97,7 @@ fn serve_zone(
     )
 }
 
-/// Serves a datagram by a zone, whose records are the answers of messages, each behind its length; answers how many
+/// Serves a datagram by a zone, whose records are the answers of messages, each after its length; answers how many
 /// bytes all replies had.
 #[unsafe(no_mangle)]
 pub extern "C" fn bench_calls_serve(alloc: Global, zone: &[u8], bytes: &[u8], rounds: u64) -> u64 {
@@ -117,7 +118,7 @@ pub extern "C" fn bench_calls_serve_over_tcp(
 /// The chain of a zone and of a list of blocked names, which answers in the zone's place for the names that it blocks.
 fn filtered(
     alloc: Global,
-    zone: AuthoritativeZone,
+    zone: Zone<NoKeys, Memory>,
     list: BlocklistZoneHandler,
 ) -> Option<Vec<Filtered>> {
     let mut chain = Vec::new(alloc);
@@ -126,11 +127,11 @@ fn filtered(
     Some(chain)
 }
 
-/// The catalog with a zone of this origin, and a list of blocked names behind it.
+/// The catalog with a zone of this origin, and a list of blocked names after it.
 fn filtered_catalog(
     alloc: Global,
     origin: LowerName,
-    zone: AuthoritativeZone,
+    zone: Zone<NoKeys, Memory>,
     list: BlocklistZoneHandler,
 ) -> Option<Catalog<NoKeys, Filtered>> {
     let chain = filtered(alloc, zone, list)?;
@@ -148,7 +149,7 @@ fn filtered_catalog(
     }
 }
 
-/// Serves a datagram, in each round anew, by the zone of these records and a list of blocked names behind it.
+/// Serves a datagram, once in each round, by the zone of these records and a list of blocked names after it.
 fn serve_filtered(
     alloc: Global,
     list: &[u8],
@@ -162,8 +163,8 @@ fn serve_filtered(
     serve_rounds(alloc, catalog, bytes, Protocol::Udp, rounds)
 }
 
-/// Serves a datagram by a zone, whose records are the answers of messages, each behind its length, and a list of
-/// blocked names, a line of text for each, behind it; answers how many bytes all replies had.
+/// Serves a datagram by a zone, whose records are the answers of messages, each after its length, and a list of
+/// blocked names, a line of text for each, after it; answers how many bytes all replies had.
 #[unsafe(no_mangle)]
 pub extern "C" fn bench_calls_serve_filtered(
     alloc: Global,

@@ -60,7 +60,7 @@ fn changed(
     changed
 }
 
-/// Makes two updates of a zone, whose records are the answers of messages, each behind its length: what the answers of
+/// Makes two updates of a zone, whose records are the answers of messages, each after its length: what the answers of
 /// the message in `updates` say, then what its authorities say. Answers in how many rounds both changed the zone.
 #[unsafe(no_mangle)]
 pub extern "C" fn bench_calls_update(

@@ -4,10 +4,12 @@ use hickory_base::zone_store::{AxfrPolicy, InMemoryZoneHandler, RecordSet, ZoneT
 use hickory_server::server::NoKeys;
 use hickory_store::updates::UpdatableZoneHandler;
 use hickory_wire::{LowerName, Message, Record, RrKey};
-use hickory_zone::AuthoritativeZone;
+use sqlite_disk::Memory;
 use std::alloc::Global;
 use std::collections::BTreeMap;
 use std::rc::Rc;
+use update_policy::Policy;
+use zones::Zone;
 
 /// Records by name and type.
 type Groups = BTreeMap<RrKey, Vec<Record>>;
@@ -114,7 +116,7 @@ pub(crate) fn zone(alloc: Global, bytes: &[u8]) -> Option<(LowerName, InMemoryZo
     zone_of(alloc, answers(alloc, bytes)?)
 }
 
-/// A message behind its length, and what stands behind both (RFC 1035 section 4.2.2).
+/// A message after its length, and what comes after both (RFC 1035 section 4.2.2).
 fn framed(bytes: &[u8]) -> Option<(&[u8], &[u8])> {
     let [high, low, rest @ ..] = bytes else {
         return None;
@@ -123,7 +125,7 @@ fn framed(bytes: &[u8]) -> Option<(&[u8], &[u8])> {
     Some((rest.get(..len)?, rest.get(len..)?))
 }
 
-/// Puts the answers of a message behind other records.
+/// Puts the answers of a message after other records.
 fn put_answers(alloc: Global, records: &mut Vec<Record>, message: &[u8]) -> Option<()> {
     let mut answers = answers(alloc, message)?;
     let put = records.append(&mut answers);
@@ -131,7 +133,7 @@ fn put_answers(alloc: Global, records: &mut Vec<Record>, message: &[u8]) -> Opti
     put.ok()
 }
 
-/// The answers of messages, each behind its length.
+/// The answers of messages, each after its length.
 fn answers_of(alloc: Global, bytes: &[u8]) -> Option<Vec<Record>> {
     let mut records = Vec::new(alloc);
     let mut rest = bytes;
@@ -148,7 +150,7 @@ fn answers_of(alloc: Global, bytes: &[u8]) -> Option<Vec<Record>> {
     Some(records)
 }
 
-/// A zone that takes updates and transfers, of the answers of messages, each behind its length.
+/// A zone that takes updates and transfers, of the answers of messages, each after its length.
 pub(crate) fn updatable_zone(
     alloc: Global,
     bytes: &[u8],
@@ -158,20 +160,17 @@ pub(crate) fn updatable_zone(
     Some((origin, handler))
 }
 
-/// A zone that answers as RFC 1034 says, of the answers of messages, each behind its length.
+/// A zone that answers as RFC 1034 says and grants no update, of the answers of messages, each after its length.
 pub(crate) fn authoritative_zone(
     alloc: Global,
     bytes: &[u8],
-) -> Option<(LowerName, AuthoritativeZone)> {
-    let (origin, zone) = zone_of(alloc, answers_of(alloc, bytes)?)?;
-    if !AuthoritativeZone::accepts(&zone) {
+) -> Option<(LowerName, Zone<NoKeys, Memory>)> {
+    let (origin, zone) = updatable_zone(alloc, bytes)?;
+    let zone = Zone::new(alloc, zone, Policy::new(alloc));
+    if !zone.is_owned() {
         drop(zone);
         drop(origin);
         return None;
     }
-    let Ok(zone) = AuthoritativeZone::new(alloc, zone) else {
-        drop(origin);
-        return None;
-    };
     Some((origin, zone))
 }

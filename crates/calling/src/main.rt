@@ -1,5 +1,5 @@
 //! Callers of the library, one module for each thing that a program does with it. The program runs each and prints what
-//! came of it; `docs/CALLING.md` quotes them.
+//! came of it; `docs/library/rattle.md` quotes them.
 #![tactic(auto)]
 
 mod blocking;

@@ -1,6 +1,6 @@
 //! Changing a zone as a dynamic update does.
 
-ghost use Rattle.std.specs.Prelude.{true};
+ghost use Rattle.std.specs.Prelude.{false, true};
 ghost use Rattle.hickory_base.specs.zone_store.ZoneSets.{zone_records};
 ghost use Rattle.hickory_store.specs.updates.Prescan.{prescan_refusal};
 ghost use Rattle.hickory_store.specs.updates.UpdateAnswers.{Updates, applied, unless_refused};
@@ -18,7 +18,7 @@ pub fn change<V: Verifier>(
     updates: &[Record],
 ) -> Result<bool, UpdateFault>
     ensures { Updates (unless_refused (prescan_refusal zone.old.zone.origin updates.now)
-        (applied zone.old.zone.origin (zone_records zone.old.zone.sets) updates.now true)) result zone.old.zone
+        (applied false zone.old.zone.origin (zone_records zone.old.zone.sets) updates.now true)) result zone.old.zone
         zone.new.zone }
 {
     match zone.pre_scan(updates) {

@@ -1,7 +1,7 @@
 //! Why the program ends before anything is found.
 
-use record_printing::PrintError;
 use std::alloc::{AllocError, AllocFailed};
+use text_print::PrintError;
 use thiserror::Error;
 
 /// Why the program ends before anything is found.

@@ -2,9 +2,9 @@
 
 use crate::fault::Fault;
 use crate::places::{Place, Places};
-use record_printing::put_record;
 use std::alloc::{AllocError, Global};
 use std::str;
+use text_print::put_record;
 use wire_messages::rr::record::Record;
 use wire_names::rr::domain::name::Name;
 use zone_check::{Finding, Severity};

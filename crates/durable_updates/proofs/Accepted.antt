@@ -33,15 +33,15 @@ leaves (Ok outcome) changed old new is rest = (is.0, rest)
 leaves (Err code) changed old new is rest = absurd is
 
 module _ {V : Type 0} (by : Ghosts V) where
-  makes : (r : ReceivedRequest) (now : ℕ) (changed : Bool) (context : Option TSigResponseContext) (old new : UpdatableZone V) → AnswersUpdate by old (r, now) (Ok changed) context new → Makes (update_of r.message).updates old.zone new.zone
+  makes : (r : ReceivedRequest) (now : ℕ) (changed : Bool) (context : Option TSigResponseContext) (old new : UpdatableZone V) → AnswersUpdate true by old (r, now) (Ok changed) context new → Makes (update_of r.message).updates old.zone new.zone
   makes r now changed context old new answers =
       let updates : List (Record RData) = (update_of r.message).updates in
-      let o : Outcome = applied old.zone.origin (zone_records old.zone.sets) (update_of r.message).updates true in
+      let o : Outcome = applied true old.zone.origin (zone_records old.zone.sets) (update_of r.message).updates true in
       let is = none_refused (update_permission by old.verifier old.allow_update r now).refusal
       (prerequisite_section_refusal old.zone.origin (zone_records old.zone.sets) (update_of r.message).prerequisites)
       (prescan_refusal old.zone.origin (update_of r.message).updates)
-      (applied old.zone.origin (zone_records old.zone.sets) (update_of r.message).updates true) (zone_records new.zone.sets) changed answers.0.0 in
-      record { accepted = is.0; done = leaves (applied old.zone.origin (zone_records old.zone.sets) (update_of r.message).updates true) changed old.zone new.zone is.1 answers.0.1 }
+      (applied true old.zone.origin (zone_records old.zone.sets) (update_of r.message).updates true) (zone_records new.zone.sets) changed answers.0.0 in
+      record { accepted = is.0; done = leaves (applied true old.zone.origin (zone_records old.zone.sets) (update_of r.message).updates true) changed old.zone new.zone is.1 answers.0.1 }
 
   one_redone : (r : ReceivedRequest) (now : ℕ) (answer : Result Bool UpdateFault) (context : Option TSigResponseContext) (others : List ReceivedRequest) (old between new : UpdatableZone V)
       → AnswersRead by old (r, now) (answer, context) between → Redone (bytes_of others) between.zone new.zone → Redone (bytes_of (if_accepted answer r others)) old.zone new.zone

@@ -13,13 +13,13 @@ use Rattle.hickory_store.proofs.lemmas.updates.ApexNs.{OfOneType}
 use Rattle.hickory_store.proofs.lemmas.updates.SameZones.{Identity}
 use Rattle.sqlite_disk.specs.Disk.{Only}
 use Rattle.sqlite_disk.specs.declared.Disk.{Ghosts as DiskGhosts}
-use Rattle.update_journal.specs.Frames.{IsBeforeOrAfter, StandsFor, ended}
-use Rattle.update_journal.specs.Generations.{StandFor, generation_of, header}
-use Rattle.update_journal.specs.JournalState.{JournalState}
-use Rattle.update_journal.specs.Read.{contents}
-use Rattle.update_journal.specs.Settled.{IsSettled}
-use Rattle.update_journal.proofs.Pairs.{first_is, one_of_two, second_is}
-use Rattle.update_journal.proofs.Steps.{rests}
+use Rattle.journal.specs.Frames.{IsBeforeOrAfter, StandsFor, ended}
+use Rattle.journal.specs.Generations.{StandFor, generation_of, header}
+use Rattle.journal.specs.JournalState.{JournalState}
+use Rattle.journal.specs.Read.{contents}
+use Rattle.journal.specs.Settled.{IsSettled}
+use Rattle.journal.proofs.Pairs.{first_is, one_of_two, second_is}
+use Rattle.journal.proofs.Steps.{rests}
 use Rattle.durable_updates.specs.Batches.{accepted, bytes_of}
 use Rattle.durable_updates.specs.CompactedRuns.{AreDisks, AreKept, CompactsOnce, IsLifeOfTwo, IsMadeBy, Mean, OnDisk, PairServer, RunOfTwo, SameSpare, ServesTwo, StandForRequests, StartsTwo, Turns, answered, answered_all, begun, between_calls, compacted, files_of, lived, opened, server_of, unborn, while_starting, within_batch, within_compaction, within_request}
 use Rattle.durable_updates.specs.Compactions.{Compacts, Files, Replaces, done, failed, fresh, undone}

@@ -8,12 +8,12 @@ use Rattle.hickory_store.specs.updates.UpdateLaws.{HasOneSoa, HoldsIn}
 use Rattle.hickory_store.proofs.lemmas.updates.ApexNs.{OfOneType}
 use Rattle.hickory_store.proofs.lemmas.updates.SameZones.{Identity}
 use Rattle.sqlite_disk.specs.declared.Disk.{Ghosts as DiskGhosts}
-use Rattle.update_journal.specs.Generations.{IsBeingReplaced, StandFor, generation_of, header}
-use Rattle.update_journal.specs.JournalState.{JournalState}
-use Rattle.update_journal.specs.Read.{contents}
-use Rattle.update_journal.specs.Settled.{IsAtRest, IsSettled}
-use Rattle.update_journal.proofs.Pairs.{first_is, second_is}
-use Rattle.update_journal.proofs.Steps.{rests}
+use Rattle.journal.specs.Generations.{IsBeingReplaced, StandFor, generation_of, header}
+use Rattle.journal.specs.JournalState.{JournalState}
+use Rattle.journal.specs.Read.{contents}
+use Rattle.journal.specs.Settled.{IsAtRest, IsSettled}
+use Rattle.journal.proofs.Pairs.{first_is, second_is}
+use Rattle.journal.proofs.Steps.{rests}
 use Rattle.durable_updates.specs.Batches.{bytes_of}
 use Rattle.durable_updates.specs.Compactions.{CompactionIsKept, Compacts, Files, LeaveZone, Replaces, done, failed, fresh, undone}
 use Rattle.durable_updates.specs.Recovering.{AreFound, counting}
@@ -94,7 +94,7 @@ module _ {D : Type 0} (disks : DiskGhosts D) where
       by entries doubt (inr f) = inl f.shut
 
   -- it is shut
-  shut_durable : (zone : MemoryZone) (journal : JournalState D) → IsDurable disks zone journal → IsDurable disks zone (record journal { is_open = false })
+  pub shut_durable : (zone : MemoryZone) (journal : JournalState D) → IsDurable disks zone journal → IsDurable disks zone (record journal { is_open = false })
   shut_durable zone journal durable clean =
       let was = durable clean in (
         was.0,

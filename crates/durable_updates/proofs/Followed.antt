@@ -14,7 +14,7 @@ use Rattle.zone_differences.specs.Versions.{AllLead, RecordedLead}
 use Rattle.zone_differences.specs.declared.before.Before.{Before}
 use Rattle.zone_differences.specs.declared.difference.Difference.{Difference}
 use Rattle.zone_differences.proofs.Leading.{none_lead}
-use Rattle.update_journal.specs.Read.{contents}
+use Rattle.journal.specs.Read.{contents}
 use Rattle.durable_updates.specs.Recovering.{AreFound, counting}
 use Rattle.durable_updates.specs.Redone.{Redone}
 use Rattle.durable_updates.specs.Snapshots.{IsBase, Recalls}

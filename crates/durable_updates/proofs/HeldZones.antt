@@ -9,7 +9,7 @@ use Rattle.hickory_base.specs.declared.errors.UpdateFault.{UpdateFault}
 use Rattle.hickory_store.specs.updates.UpdatableZone.{UpdatableZone}
 use Rattle.hickory_store.specs.declared.updates.verifier.Verifier.{Ghosts}
 use Rattle.sqlite_disk.specs.declared.Disk.{Ghosts as DiskGhosts}
-use Rattle.update_journal.specs.JournalState.{JournalState}
+use Rattle.journal.specs.JournalState.{JournalState}
 use Rattle.durable_updates.specs.Batches.{AnswersRead, bytes_of, if_accepted}
 use Rattle.durable_updates.specs.Holding.{IsAhead, IsKeptBut}
 use Rattle.durable_updates.specs.Journalling.{JournalsAll}

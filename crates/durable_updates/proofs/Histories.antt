@@ -9,12 +9,12 @@ use Rattle.hickory_base.specs.declared.errors.UpdateFault.{UpdateFault}
 use Rattle.hickory_store.specs.updates.UpdatableZone.{UpdatableZone}
 use Rattle.hickory_store.specs.declared.updates.verifier.Verifier.{Ghosts}
 use Rattle.sqlite_disk.specs.declared.Disk.{Ghosts as DiskGhosts}
-use Rattle.update_journal.specs.Frames.{IsBeforeOrAfter, StandsFor, ended}
-use Rattle.update_journal.specs.JournalState.{JournalState}
-use Rattle.update_journal.specs.Read.{contents}
-use Rattle.update_journal.specs.Settled.{IsSettled}
-use Rattle.update_journal.proofs.Steps.{rests}
-use Rattle.update_journal.proofs.Recovery.{unique}
+use Rattle.journal.specs.Frames.{IsBeforeOrAfter, StandsFor, ended}
+use Rattle.journal.specs.JournalState.{JournalState}
+use Rattle.journal.specs.Read.{contents}
+use Rattle.journal.specs.Settled.{IsSettled}
+use Rattle.journal.proofs.Steps.{rests}
+use Rattle.journal.proofs.Recovery.{unique}
 use Rattle.durable_updates.specs.Batches.{EndsAs, accepted, bytes_of}
 use Rattle.durable_updates.specs.DurableUpdates.{Told}
 use Rattle.durable_updates.specs.Journalling.{JournalsAll}

@@ -44,7 +44,7 @@ for_any_reason Reason by requests told old new answers = record {
 abbrev pub KeepsOthers : {V : Type 0} → UpdatableZone V → UpdatableZone V → Type 0
 KeepsOthers old new = new ≡ record old { zone = record old.zone { sets = new.zone.sets } }
 
-pub one_keeps : {V : Type 0} (by : Ghosts V) (r : ReceivedRequest) (now : ℕ) (answer : Result Bool UpdateFault) (context : Option TSigResponseContext) (old new : UpdatableZone V) → AnswersUpdate by old (r, now) answer context new → KeepsOthers old new
+pub one_keeps : {V : Type 0} (by : Ghosts V) (r : ReceivedRequest) (now : ℕ) (answer : Result Bool UpdateFault) (context : Option TSigResponseContext) (old new : UpdatableZone V) → AnswersUpdate true by old (r, now) answer context new → KeepsOthers old new
 one_keeps {V} by r now (Ok changed) context old new answers = answers.2 ∙ ap (λ (z : MemoryZone). record old { zone = z }) answers.0.1
 one_keeps {V} by r now (Err fault) context old new answers = answers.2 ∙ ap (λ (z : MemoryZone). record old { zone = z }) (answers.0.1 ∙ ap (λ (z : MemoryZone). record old.zone { sets = z.sets }) (sym answers.0.1))
 

@@ -12,3 +12,4 @@ pub mod CompactedRuns
 pub mod Followed
 pub mod HeldBatches
 pub mod HeldZones
+pub mod Done

@@ -14,7 +14,7 @@ use Rattle.hickory_store.specs.updates.UpdateLaws.{HasOneSoa, HoldsIn}
 use Rattle.hickory_store.specs.updates.Prescan.{prescan_refusal}
 use Rattle.hickory_store.proofs.lemmas.updates.ApexNs.{OfOneType, Records}
 use Rattle.hickory_store.proofs.lemmas.updates.SameZones.{Identity}
-use Rattle.update_journal.specs.Generations.{generation_of, number_of}
+use Rattle.journal.specs.Generations.{generation_of, number_of}
 use Rattle.durable_updates.specs.Batches.{bytes_of}
 use Rattle.durable_updates.specs.CompactedRuns.{IsMadeBy, Mean}
 use Rattle.durable_updates.specs.ReadRequests.{AreRead}
@@ -42,7 +42,7 @@ over_two first middle last one other = other ∙ ap (λ (z : MemoryZone). record
 pub redone_others : (entries : List (List ℕ)) (old new : MemoryZone) → Redone entries old new → new ≡ record old { sets = new.sets }
 redone_others [] old new same = subst (λ (z : MemoryZone). z ≡ record old { sets = z.sets }) (sym same) refl
 redone_others (entry ∷ entries) old new run =
-    over_two old run.0 new (leaves_others (applied old.origin (zone_records old.sets) run.1.message.authorities true) old run.0 run.1.made.done) (redone_others entries run.0 new run.2)
+    over_two old run.0 new (leaves_others (applied true old.origin (zone_records old.sets) run.1.message.authorities true) old run.0 run.1.made.done) (redone_others entries run.0 new run.2)
 
 base_others : (entries requests : List (List ℕ)) (first base : MemoryZone) → IsBase entries first base requests → base ≡ record first { sets = base.sets }
 base_others entries requests first base (inl same) = subst (λ (z : MemoryZone). z ≡ record first { sets = z.sets }) (sym same.1) refl
@@ -163,9 +163,9 @@ module _ (identity : Identity) (same_type : OfOneType) where
     made_so : (rs : Records) → Makes rs old new → (left : MemoryZone) × Makes rs made left × SameZone (zone_records new.sets) (zone_records left.sets) × (new ≡ record left { sets = new.sets })
     made_so rs m =
         let of_origin : old.origin ≡ made.origin = ap (λ (z : MemoryZone). z.origin) others in
-        let f = left_so (applied made.origin (zone_records made.sets) rs true) (applied made.origin (zone_records old.sets) rs true)
+        let f = left_so (applied true made.origin (zone_records made.sets) rs true) (applied true made.origin (zone_records old.sets) rs true)
         (applied_same identity same_type made.origin rs (zone_records made.sets) (zone_records old.sets) soa (λ r. sym (same r)))
-        (subst (λ o. Leaves (applied o (zone_records old.sets) rs true) old new) of_origin m.done) in
+        (subst (λ o. Leaves (applied true o (zone_records old.sets) rs true) old new) of_origin m.done) in
         (f.0, record { accepted = subst (λ o. prescan_refusal o rs ≡ None) of_origin m.accepted; done = f.1 }, f.2, f.3)
 
   module _ (base : MemoryZone) (soa : HoldsIn HasOneSoa base) where

@@ -27,7 +27,7 @@ use Rattle.hickory_store.specs.updates.UpdateAnswers.{is_apex_soa}
 use Rattle.hickory_store.specs.updates.UpdateLaws.{HasOneSoa, HoldsIn}
 use Rattle.hickory_store.proofs.lemmas.updates.ApexNs.{OfOneType, Records, Resource}
 use Rattle.hickory_store.proofs.lemmas.updates.SameZones.{Identity, passes, same_itself, same_respects, some_ttl, ttl_append}
-use Rattle.update_journal.specs.Generations.{header as generation_header}
+use Rattle.journal.specs.Generations.{header as generation_header}
 use Rattle.durable_updates.specs.Compactions.{fresh}
 use Rattle.durable_updates.specs.Redone.{Redone}
 use Rattle.durable_updates.specs.Snapshots.{IsAnswer, IsBase, IsPut, IsSnapshot, Recalls, Say, Says, compacted}

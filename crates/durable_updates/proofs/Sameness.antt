@@ -1,6 +1,5 @@
 -- What entries make of one zone is one zone: an update leaves the same of two lists that stand for one.
 use Rattle.std.proofs.Common.{◌≡◌, ◌∙◌, ap, sym, subst, refl, ℕ, Bool, true, false, cond, not, ◌&&◌, ◌||◌, [], ◌∷◌, List, map, Option, Some, None, Result, Ok, Err}
-use Rattle.std.specs.Prelude.{◌==◌}
 use Rattle.std.specs.List.{list_any}
 use Rattle.std.specs.Option.{is_some}
 use Rattle.wire_names.specs.rr.domain.DomainName.{DomainName}
@@ -9,15 +8,14 @@ use Rattle.wire_messages.specs.rr.RecordSameness.{SameRecord}
 use Rattle.wire_messages.specs.serialize.reading.Cursor.{Cursor}
 use Rattle.wire_names.specs.declared.error.DecodeError.{DecodeError}
 use Rattle.hickory_base.specs.zone_store.ZoneAnswers.{MemoryZone}
-use Rattle.hickory_base.specs.zone_store.ZoneRecords.{is_at}
 use Rattle.hickory_base.specs.zone_store.ZoneSets.{zone_records}
-use Rattle.hickory_store.specs.updates.Changes.{any_change, changes, is_added, after_updates, is_deleted_when, has_ttl, in_class, in_rrset, is_ignored, is_newer, is_spared, adds_nothing_new, is_type, replaces_rrset, after_record}
+use Rattle.hickory_store.specs.updates.Changes.{after_record, after_updates, any_change, changes, counted, counted_changes, is_added, is_deleted_when, is_spared}
 use Rattle.hickory_store.specs.updates.Identity.{SameZone, same_record, ttl_at}
 use Rattle.hickory_store.specs.updates.UpdateAnswers.{Outcome, applied, incremented, is_apex_soa, with_next_serial}
 use Rattle.hickory_store.specs.updates.UpdateLaws.{HasOneSoa, HoldsIn, IsOneSoa}
 use Rattle.hickory_store.proofs.lemmas.updates.ApexNs.{OfOneType, Records, Resource}
 use Rattle.hickory_store.proofs.lemmas.updates.OneSoa.{next_same, next_soa, one_fold, one_next, one_soa_same, only_soa, soa_respects}
-use Rattle.hickory_store.proofs.lemmas.updates.SameZones.{Identity, any_same, both_respect, fold_same, goes_respects, name_respects, newer_respects, not_respects, rrset_respects, same_respects, same_turned, same_via, some_ttl, type_respects}
+use Rattle.hickory_store.proofs.lemmas.updates.SameZones.{Identity, any_same, comes_same, fold_same, goes_respects, same_turned, same_via, some_ttl, spared_same}
 use Rattle.hickory_store.proofs.lemmas.updates.SerialSteps.{apex_next}
 use Rattle.durable_updates.specs.Redone.{Leaves, Makes, Redone, RedoesOne}
 
@@ -55,54 +53,23 @@ rest_none true b h = absurd (cc)
 rest_none false b h = h
 
 module _ (identity : Identity) (same_type : OfOneType) where
-  -- ---- whether a record comes, and whether its records are spared
-
-  ignored_of : Bool → Bool → Bool → Bool → Bool → Bool → Bool
-  ignored_of five six beside cnames sets serials = cond five beside (cnames || (six && (not sets || serials)))
-
-  ignored_same : (z w : Records) (r : Resource) → SameZone z w → is_ignored z r ≡ is_ignored w r
-  unfolding ignored_of
-  ignored_same z w r h =
-      let beside : Resource → Bool = λ q. is_at r.name q && not (is_type 5 q) in
-      let cnames : Resource → Bool = λ q. is_at r.name q && is_type 5 q in
-      let serials : Resource → Bool = λ q. in_rrset r q && not (is_newer r.rdata q.rdata) in
-      ap (λ x. ignored_of (is_type 5 r) (is_type 6 r) x (list_any cnames z) (list_any (in_rrset r) z) (list_any serials z))
-      (any_same identity beside (both_respect (is_at r.name) (λ q. not (is_type 5 q)) (name_respects identity r.name) (not_respects (is_type 5) (type_respects identity 5))) z w h)
-      ∙ ap (λ x. ignored_of (is_type 5 r) (is_type 6 r) (list_any beside w) x (list_any (in_rrset r) z) (list_any serials z))
-      (any_same identity cnames (both_respect (is_at r.name) (is_type 5) (name_respects identity r.name) (type_respects identity 5)) z w h)
-      ∙ ap (λ x. ignored_of (is_type 5 r) (is_type 6 r) (list_any beside w) (list_any cnames w) x (list_any serials z)) (any_same identity (in_rrset r) (rrset_respects identity r) z w h)
-      ∙ ap (λ x. ignored_of (is_type 5 r) (is_type 6 r) (list_any beside w) (list_any cnames w) (list_any (in_rrset r) w) x)
-      (any_same identity serials (both_respect (in_rrset r) (λ q. not (is_newer r.rdata q.rdata)) (rrset_respects identity r) (not_respects (λ q. is_newer r.rdata q.rdata) (newer_respects identity r.rdata))) z w h)
-
-  there_same : (z w : Records) (r : Resource) → SameZone z w → adds_nothing_new z r ≡ adds_nothing_new w r
-  there_same z w r h =
-      ap (λ t. has_ttl r.ttl t && not (replaces_rrset r && list_any (λ q. in_rrset r q && not (same_record r q)) z)) (h r)
-      ∙ ap (λ x. has_ttl r.ttl (ttl_at w r) && not (replaces_rrset r && x))
-      (any_same identity (λ q. in_rrset r q && not (same_record r q)) (both_respect (in_rrset r) (λ q. not (same_record r q)) (rrset_respects identity r) (not_respects (same_record r) (same_respects identity r))) z w h)
-
-  comes_same : (z w : Records) (r : Resource) → SameZone z w → is_added z r ≡ is_added w r
-  comes_same z w r h =
-      ap (λ x. (r.dns_class == 1) && (not x && not (adds_nothing_new z r))) (ignored_same z w r h) ∙ ap (λ x. (r.dns_class == 1) && (not (is_ignored w r) && not x)) (there_same z w r h)
-
-  spared_same : (z w : Records) (r : Resource) → SameZone z w → is_spared z r ≡ is_spared w r
-  spared_same z w r h =
-      ap (λ x. is_type 6 r || (is_type 2 r && not x))
-      (any_same identity (λ q. in_rrset r q && not (same_record (in_class r) q)) (both_respect (in_rrset r) (λ q. not (same_record (in_class r) q)) (rrset_respects identity r) (not_respects (same_record (in_class r)) (same_respects identity (in_class r)))) z w h)
-
   -- ---- whether an update changes the zone
 
-  changes_same : (o : DomainName) (z w : Records) (r : Resource) → SameZone z w → changes o z r ≡ changes o w r
-  unfolding changes
-  changes_same o z w r h =
-      ap (λ a. list_any (is_deleted_when o r a (is_spared z r)) z || a) (comes_same z w r h)
-      ∙ ap (λ b. list_any (is_deleted_when o r (is_added w r) b) z || is_added w r) (spared_same z w r h)
-      ∙ ap (λ x. x || is_added w r) (any_same identity (is_deleted_when o r (is_added w r) (is_spared w r)) (goes_respects identity o r (is_added w r) (is_spared w r)) z w h)
+  counted_same : (o : DomainName) (z w : Records) (r : Resource) → SameZone z w → counted_changes true o z r ≡ counted_changes true o w r
+  counted_same o z w r h =
+      ap (λ a. list_any (is_deleted_when o r a (is_spared true o z r)) z || a) (comes_same identity true z w r h)
+      ∙ ap (λ b. list_any (is_deleted_when o r (is_added true w r) b) z || is_added true w r) (spared_same identity true o z w r h)
+      ∙ ap (λ x. x || is_added true w r) (any_same identity (is_deleted_when o r (is_added true w r) (is_spared true o w r)) (goes_respects identity o r (is_added true w r) (is_spared true o w r)) z w h)
 
-  any_change_same : (o : DomainName) (rs z w : Records) → SameZone z w → any_change o z rs ≡ any_change o w rs
+  changes_same : (o : DomainName) (z w : Records) (r : Resource) → SameZone z w → changes true o z r ≡ changes true o w r
+  unfolding changes
+  changes_same o z w r h = counted_same o z w (counted true r) h
+
+  any_change_same : (o : DomainName) (rs z w : Records) → SameZone z w → any_change true o z rs ≡ any_change true o w rs
   any_change_same o [] z w h = refl
   any_change_same o (r ∷ rs) z w h =
-      ap (λ x. x || any_change o (after_record o z r) rs) (changes_same o z w r h)
-      ∙ ap (λ x. changes o w r || x) (any_change_same o rs (after_record o z r) (after_record o w r) (fold_same identity o (r ∷ []) z w h))
+      ap (λ x. x || any_change true o (after_record true o z r) rs) (changes_same o z w r h)
+      ∙ ap (λ x. changes true o w r || x) (any_change_same o rs (after_record true o z r) (after_record true o w r) (fold_same identity true o (r ∷ []) z w h))
 
   -- ---- the increment
 
@@ -175,17 +142,17 @@ module _ (identity : Identity) (same_type : OfOneType) where
   serial_outcome o z w false true e h same = absurd (cc)
 
   change_outcome : (o : DomainName) (rs z w : Records) (a b : Bool) → a ≡ b → HasOneSoa o z → SameZone z w
-      → SameOutcome (cond a (with_next_serial o (after_updates o z rs)) (Ok (z, false))) (cond b (with_next_serial o (after_updates o w rs)) (Ok (w, false)))
+      → SameOutcome (cond a (with_next_serial o (after_updates true o z rs)) (Ok (z, false))) (cond b (with_next_serial o (after_updates true o w rs)) (Ok (w, false)))
   change_outcome o rs z w true true e h same =
-      let after : SameZone (after_updates o z rs) (after_updates o w rs) = fold_same identity o rs z w same in
-      serial_outcome o (after_updates o z rs) (after_updates o w rs) (list_any (is_apex_soa o) (after_updates o z rs)) (list_any (is_apex_soa o) (after_updates o w rs))
-      (any_same identity (is_apex_soa o) (soa_respects identity same_type o) (after_updates o z rs) (after_updates o w rs) after) (one_fold identity same_type o rs z h) after
+      let after : SameZone (after_updates true o z rs) (after_updates true o w rs) = fold_same identity true o rs z w same in
+      serial_outcome o (after_updates true o z rs) (after_updates true o w rs) (list_any (is_apex_soa o) (after_updates true o z rs)) (list_any (is_apex_soa o) (after_updates true o w rs))
+      (any_same identity (is_apex_soa o) (soa_respects identity same_type o) (after_updates true o z rs) (after_updates true o w rs) after) (one_fold identity same_type true o rs z h) after
   change_outcome o rs z w false false e h same = same
   change_outcome o rs z w true false e h same = absurd (cc)
   change_outcome o rs z w false true e h same = absurd (cc)
 
-  pub applied_same : (o : DomainName) (rs z w : Records) → HasOneSoa o z → SameZone z w → SameOutcome (applied o z rs true) (applied o w rs true)
-  applied_same o rs z w h same = change_outcome o rs z w (any_change o z rs) (any_change o w rs) (any_change_same o rs z w same) h same
+  pub applied_same : (o : DomainName) (rs z w : Records) → HasOneSoa o z → SameZone z w → SameOutcome (applied true o z rs true) (applied true o w rs true)
+  applied_same o rs z w h same = change_outcome o rs z w (any_change true o z rs) (any_change true o w rs) (any_change_same o rs z w same) h same
 
   -- the outcome has one SOA, if it is no refusal
   abbrev OneSoaLeft : DomainName → Outcome → Type 0
@@ -196,8 +163,8 @@ module _ (identity : Identity) (same_type : OfOneType) where
   serial_left o z true h = (next_soa h.0, one_next identity same_type o z h.0 h.1)
   serial_left o z false h = tt
 
-  change_left : (o : DomainName) (rs z : Records) (b : Bool) → HasOneSoa o z → OneSoaLeft o (cond b (with_next_serial o (after_updates o z rs)) (Ok (z, false)))
-  change_left o rs z true h = serial_left o (after_updates o z rs) (list_any (is_apex_soa o) (after_updates o z rs)) (one_fold identity same_type o rs z h)
+  change_left : (o : DomainName) (rs z : Records) (b : Bool) → HasOneSoa o z → OneSoaLeft o (cond b (with_next_serial o (after_updates true o z rs)) (Ok (z, false)))
+  change_left o rs z true h = serial_left o (after_updates true o z rs) (list_any (is_apex_soa o) (after_updates true o z rs)) (one_fold identity same_type true o rs z h)
   change_left o rs z false h = h
 
   -- two zones of one origin that have the same records, with one SOA
@@ -221,10 +188,10 @@ module _ (identity : Identity) (same_type : OfOneType) where
 
   made_alike : (rs : Records) (a b x y : MemoryZone) → Alike a b → Makes rs a x → Makes rs b y → Alike x y
   made_alike rs a b x y alike p q =
-      let done : Leaves (applied a.origin (zone_records b.sets) rs true) b y = subst (λ o. Leaves (applied o (zone_records b.sets) rs true) b y) (sym alike.origin) q.done in
-      left_alike (applied a.origin (zone_records a.sets) rs true) (applied a.origin (zone_records b.sets) rs true) a b x y alike
+      let done : Leaves (applied true a.origin (zone_records b.sets) rs true) b y = subst (λ o. Leaves (applied true o (zone_records b.sets) rs true) b y) (sym alike.origin) q.done in
+      left_alike (applied true a.origin (zone_records a.sets) rs true) (applied true a.origin (zone_records b.sets) rs true) a b x y alike
       (applied_same a.origin rs (zone_records a.sets) (zone_records b.sets) alike.soa alike.records)
-      (change_left a.origin rs (zone_records a.sets) (any_change a.origin (zone_records a.sets) rs) alike.soa) p.done done
+      (change_left a.origin rs (zone_records a.sets) (any_change true a.origin (zone_records a.sets) rs) alike.soa) p.done done
 
   -- ---- entries
 

@@ -1,9 +1,9 @@
 -- What becomes of a journal that is left alone.
 use Rattle.std.proofs.Common.{◌≡◌, inl, [], List, ◌++◌, ℕ, Ok, Err, refl, subst, sym}
 use Rattle.std.proofs.lemmas.List.{append-nil}
-use Rattle.update_journal.specs.JournalState.{JournalState}
-use Rattle.update_journal.specs.Settled.{IsSettled}
-use Rattle.update_journal.proofs.Steps.{rests}
+use Rattle.journal.specs.JournalState.{JournalState}
+use Rattle.journal.specs.Settled.{IsSettled}
+use Rattle.journal.proofs.Steps.{rests}
 use Rattle.durable_updates.specs.Journalling.{Journals, JournalsAll}
 
 pub left_alone : {D : Type 0} (seen : D → List ℕ) (may_leave : D → List ℕ → Type 0) {T E : Type 0} (e : E) (entry : List ℕ) (journal : JournalState D) → Journals seen may_leave {T = T} (Err e) entry journal journal

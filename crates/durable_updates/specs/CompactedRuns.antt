@@ -11,9 +11,9 @@ use Rattle.hickory_store.specs.updates.UpdateLaws.{HasOneSoa, HoldsIn}
 use Rattle.hickory_store.specs.declared.updates.verifier.Verifier.{Ghosts}
 use Rattle.sqlite_disk.specs.Disk.{Only}
 use Rattle.sqlite_disk.specs.declared.Disk.{Ghosts as DiskGhosts}
-use Rattle.update_journal.specs.Generations.{StandFor, generation_of}
-use Rattle.update_journal.specs.JournalState.{JournalState}
-use Rattle.update_journal.specs.Read.{contents}
+use Rattle.journal.specs.Generations.{StandFor, generation_of}
+use Rattle.journal.specs.JournalState.{JournalState}
+use Rattle.journal.specs.Read.{contents}
 use Rattle.durable_updates.specs.Batches.{accepted, bytes_of}
 use Rattle.durable_updates.specs.DurableUpdates.{Told}
 use Rattle.durable_updates.specs.Compactions.{Compacts, Files}

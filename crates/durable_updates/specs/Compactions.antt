@@ -5,9 +5,9 @@ use Rattle.hickory_base.specs.zone_store.ZoneSets.{zone_records}
 use Rattle.hickory_store.specs.updates.Identity.{SameZone}
 use Rattle.hickory_store.specs.updates.UpdateLaws.{HasOneSoa, HoldsIn}
 use Rattle.sqlite_disk.specs.declared.Disk.{Ghosts as DiskGhosts}
-use Rattle.update_journal.specs.Generations.{IsBeingReplaced, StandFor, generation_of, header}
-use Rattle.update_journal.specs.JournalState.{JournalState}
-use Rattle.update_journal.specs.Settled.{IsSettled}
+use Rattle.journal.specs.Generations.{IsBeingReplaced, StandFor, generation_of, header}
+use Rattle.journal.specs.JournalState.{JournalState}
+use Rattle.journal.specs.Settled.{IsSettled}
 use Rattle.durable_updates.specs.Snapshots.{IsSnapshot, Recalls, compacted}
 use Rattle.durable_updates.specs.declared.compaction.CompactError.{CompactError}
 

@@ -1,4 +1,4 @@
--- What a durable update answers.
+-- What a durable update answers. Updates follow the RFCs also where the Rust crate hickory-server differs from them.
 use Rattle.std.specs.Prelude.{◌≡◌, ◌⊎◌, true, Err, None}
 use Rattle.hickory_base.specs.requests.Updates.{UpdateMessage}
 use Rattle.hickory_base.specs.zone_store.ZoneSets.{zone_records}
@@ -28,13 +28,13 @@ UpdatesDurably Reason outcome answer old new = (Updates outcome answer old.zone 
 
 -- The update section of a message is done, or it could not be written.
 abbrev pub DoesDurably : {V : Type 0} → Type 0 → UpdateMessage → UpdateResult → UpdatableZone V → UpdatableZone V → Type 0
-DoesDurably Reason message answer old new = UpdatesDurably Reason (applied old.zone.origin (zone_records old.zone.sets) message.updates true) answer old new
+DoesDurably Reason message answer old new = UpdatesDurably Reason (applied true old.zone.origin (zone_records old.zone.sets) message.updates true) answer old new
 
 -- The update of a message that may be made is made, or it could not be written.
 abbrev pub MakesDurably : {V : Type 0} → Type 0 → UpdateMessage → UpdateResult → UpdatableZone V → UpdatableZone V → Type 0
-MakesDurably Reason message answer old new = UpdatesDurably Reason (message_outcome None old.zone message) answer old new
+MakesDurably Reason message answer old new = UpdatesDurably Reason (message_outcome true None old.zone message) answer old new
 
 -- A request, at its moment, is answered as a zone without a journal answers it; or it could not be written, for this
 -- reason.
 abbrev pub AnswersDurably : {V : Type 0} → Type 0 → Ghosts V → UpdatableZone V → TimedRequest → Told → UpdatableZone V → Type 0
-AnswersDurably Reason by old request told new = AnswersUpdate by old request told.0 told.1 new ⊎ IsUnwritten Reason told.0 old new
+AnswersDurably Reason by old request told new = AnswersUpdate true by old request told.0 told.1 new ⊎ IsUnwritten Reason told.0 old new

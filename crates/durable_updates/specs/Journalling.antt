@@ -1,9 +1,9 @@
 -- What becomes of a journal while a request is answered.
 use Rattle.std.specs.Prelude.{◌≡◌, ◌⊎◌, ◌≤◌, ◌^◌, ℕ, Bool, length, true, false, List, [], ◌∷◌, ◌++◌, Result, OnErr, OnOk}
 use Rattle.hickory_base.specs.requests.Requests.{ReceivedRequest}
-use Rattle.update_journal.specs.Frames.{AreTooLong, IsBeforeOrAfter}
-use Rattle.update_journal.specs.JournalState.{IsShut, JournalState}
-use Rattle.update_journal.specs.Settled.{IsSettled}
+use Rattle.journal.specs.Frames.{AreTooLong, IsBeforeOrAfter}
+use Rattle.journal.specs.JournalState.{IsShut, JournalState}
+use Rattle.journal.specs.Settled.{IsSettled}
 
 -- The journal takes no entry any more, or this one is too long for it.
 abbrev pub RefusesEntry : {D : Type 0} → (D → Bool) → JournalState D → List ℕ → Type 0

@@ -1,6 +1,6 @@
 -- Why a journal was not opened.
 use Rattle.std.specs.Prelude.{Bool, false}
-use Rattle.update_journal.specs.Errors.{is_refusal}
+use Rattle.journal.specs.Errors.{is_refusal}
 use Rattle.durable_updates.specs.declared.handler.OpenError.{OpenError}
 use Rattle.durable_updates.specs.declared.handler.OpenError.TheVariants.{Journal}
 

@@ -3,15 +3,15 @@ use Rattle.std.specs.Prelude.{◌≡◌, ◌⊎◌, ℕ, true, false, IsTrue, Li
 use Rattle.hickory_base.specs.requests.Requests.{ReceivedRequest}
 use Rattle.hickory_base.specs.zone_store.ZoneAnswers.{MemoryZone}
 use Rattle.sqlite_disk.specs.declared.Disk.{Ghosts as DiskGhosts}
-use Rattle.update_journal.specs.Frames.{IsBeforeOrAfter}
-use Rattle.update_journal.specs.Generations.{StandFor}
-use Rattle.update_journal.specs.JournalState.{JournalState}
-use Rattle.update_journal.specs.Read.{contents}
-use Rattle.update_journal.specs.JournalFile.{IsJournal}
-use Rattle.update_journal.specs.Recovery.{IsLeftAlone, Recovers}
-use Rattle.update_journal.specs.Settled.{IsSettled}
-use Rattle.update_journal.specs.declared.error.RecoverError.{RecoverError}
-use Rattle.update_journal.specs.declared.reading.Recovered.{Recovered}
+use Rattle.journal.specs.Frames.{IsBeforeOrAfter}
+use Rattle.journal.specs.Generations.{StandFor}
+use Rattle.journal.specs.JournalState.{JournalState}
+use Rattle.journal.specs.Read.{contents}
+use Rattle.journal.specs.JournalFile.{IsJournal}
+use Rattle.journal.specs.Recovery.{IsLeftAlone, Recovers}
+use Rattle.journal.specs.Settled.{IsSettled}
+use Rattle.journal.specs.declared.error.RecoverError.{RecoverError}
+use Rattle.journal.specs.declared.reading.Recovered.{Recovered}
 use Rattle.durable_updates.specs.Batches.{bytes_of}
 use Rattle.durable_updates.specs.Redone.{Redone}
 use Rattle.durable_updates.specs.Runs.{Life}

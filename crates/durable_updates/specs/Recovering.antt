@@ -2,9 +2,9 @@
 use Rattle.std.specs.Prelude.{◌↔◌, ◌<◌, ℕ, cond, IsTrue, Vec, Ok}
 use Rattle.std.specs.declared.alloc.Global.{Global}
 use Rattle.sqlite_disk.specs.declared.Disk.{Ghosts as DiskGhosts}
-use Rattle.update_journal.specs.Generations.{generation_of}
-use Rattle.update_journal.specs.Read.{contents}
-use Rattle.update_journal.specs.Recovery.{Recovers}
+use Rattle.journal.specs.Generations.{generation_of}
+use Rattle.journal.specs.Read.{contents}
+use Rattle.journal.specs.Recovery.{Recovers}
 use Rattle.durable_updates.specs.declared.recovering.TwoRecovered.{TwoRecovered}
 
 -- the entries of the file that counts

@@ -15,11 +15,11 @@ abbrev pub Leaves : Outcome → MemoryZone → MemoryZone → Type 0
 Leaves (Ok outcome) old new = SameZone (zone_records new.sets) outcome.0 × (new ≡ record old { sets = new.sets })
 Leaves (Err code) old new = new ≡ old
 
--- The records of an update section pass the prescan (RFC 2136 section 3.4.1), and are done to the zone (section 3.4.2),
--- whose serial is incremented where one of them changed it (section 3.6).
+-- The records of an update section pass the prescan (RFC 2136 section 3.4.1), and are done to the zone by the RFCs
+-- (section 3.4.2). The serial of the zone is incremented if one of them changed it (section 3.6).
 pub record Makes (updates : List (Record RData)) (old new : MemoryZone) : Type 0 where
   pub accepted : prescan_refusal old.origin updates ≡ None
-  pub done : Leaves (applied old.origin (zone_records old.sets) updates true) old new
+  pub done : Leaves (applied true old.origin (zone_records old.sets) updates true) old new
 
 -- One entry: it begins with a message, and the update section of that, which are its authorities (section 2.2), is
 -- done.

@@ -10,12 +10,12 @@ use Rattle.hickory_store.specs.updates.UpdatableZone.{UpdatableZone}
 use Rattle.hickory_store.specs.declared.updates.verifier.Verifier.{Ghosts}
 use Rattle.sqlite_disk.specs.Disk.{Only}
 use Rattle.sqlite_disk.specs.declared.Disk.{Ghosts as DiskGhosts}
-use Rattle.update_journal.specs.Frames.{StandsFor}
-use Rattle.update_journal.specs.JournalState.{JournalState}
-use Rattle.update_journal.specs.Read.{contents}
-use Rattle.update_journal.specs.Recovery.{Recovers}
-use Rattle.update_journal.specs.declared.reading.Recovered.{Recovered}
-use Rattle.update_journal.specs.declared.error.RecoverError.{RecoverError}
+use Rattle.journal.specs.Frames.{StandsFor}
+use Rattle.journal.specs.JournalState.{JournalState}
+use Rattle.journal.specs.Read.{contents}
+use Rattle.journal.specs.Recovery.{Recovers}
+use Rattle.journal.specs.declared.reading.Recovered.{Recovered}
+use Rattle.journal.specs.declared.error.RecoverError.{RecoverError}
 use Rattle.durable_updates.specs.Batches.{AnswersBatch, accepted, bytes_of}
 use Rattle.durable_updates.specs.DurableUpdates.{AnswersDurably, Told}
 use Rattle.durable_updates.specs.Journalling.{Journals, JournalsAll, RefusesEntries, RefusesRequest}

@@ -2,7 +2,7 @@
 
 ghost use Rattle.std.specs.Prelude.{◌≡◌, ◌++◌, [], IfErr, IfOk, map};
 ghost use Rattle.hickory_base.specs.zone_store.ZoneSets.{IsZone, sets_of};
-ghost use Rattle.update_journal.specs.Read.{contents};
+ghost use Rattle.journal.specs.Read.{contents};
 ghost use Rattle.durable_updates.specs.Batches.{AnswersEach, AnswersRead, accepted, bytes_of, if_accepted, told_unwritten, unwritten};
 ghost use Rattle.durable_updates.specs.DurableUpdates.{IsWriteFault};
 ghost use Rattle.durable_updates.specs.Journalling.{JournalsAll, RefusesEntries};
@@ -12,14 +12,14 @@ ghost use Rattle.durable_updates.specs.Runs.{ServesAll};
 use crate::updating::told_context;
 use hickory_base::errors::UpdateFault;
 use hickory_base::server::Request;
-use hickory_base::zone_store::{RecordSet, ZoneHandler};
+use hickory_base::zone_store::RecordSet;
 use hickory_store::updates::{UpdatableZoneHandler, Verifier};
 use hickory_wire::{ResponseCode, RrKey, TSigResponseContext};
+use journal::{Journal, JournalError};
 use sqlite_disk::Disk;
 use std::alloc::{AllocError, Global};
 use std::collections::BTreeMap;
 use std::rc::Rc;
-use update_journal::{Journal, JournalError};
 
 /// What a request is answered, and what goes with that for the signer of the reply.
 pub type UpdateAnswer = (Result<bool, UpdateFault>, Option<TSigResponseContext>);
@@ -70,7 +70,7 @@ fn judge<V: Verifier>(
     if !request.was_read() {
         return Ok((Err(UpdateFault::Code(ResponseCode::SERV_FAIL)), None));
     }
-    let (answer, context) = zone.update(alloc, request, *now);
+    let (answer, context) = zone.update_by(alloc, request, *now, true);
     if answer.is_ok() {
         entries.push(Vec::from_slice(alloc, request.as_slice())?)?;
     }
@@ -183,9 +183,9 @@ fn commit<V: Verifier, D: Disk>(
 /// Makes the updates that requests ask for (RFC 2136 section 3), once the bytes of all that are accepted are on the
 /// disk. Each comes with its moment in seconds since 1970.
 ///
-/// They are judged one after another as `UpdatableZoneHandler::update` judges them, each over the zone that those
-/// before it leave; one whose message was not read from its bytes is ServFail. Those that
-/// are answered `Ok` are written as one batch, of which a crash at any moment leaves all entries or none; then the
+/// They are judged one after another as `UpdatableZoneHandler::update_by` judges them by the RFCs, each over the zone
+/// that those before it leave; one whose message was not read from its bytes is ServFail. Those that are answered `Ok`
+/// are written as one batch, of which a crash at any moment leaves all entries or none; then the
 /// answers are given, in the order of the requests. Two syncs for all; none where no request is accepted.
 ///
 /// Where the batch is not written, none is acknowledged: every answer is ServFail (`Memory` where the memory for that

@@ -6,11 +6,12 @@ ghost use Rattle.durable_updates.specs.Recorded.{IsDurable, IsSpare};
 
 use crate::snapshots::{SnapshotError, snapshot};
 use hickory_store::updates::{UpdatableZoneHandler, Verifier};
+use journal::host_file::OwnedDisk;
+use journal::{Journal, JournalError};
 use sqlite_disk::Disk;
 use std::alloc::Global;
 use std::mem;
 use thiserror::Error;
-use update_journal::{Journal, JournalError};
 
 /// Why a journal was not compacted.
 #[derive(Debug, Drop, Error)]
@@ -102,4 +103,13 @@ pub(crate) fn compact_into<V: Verifier, D: Disk + Drop>(
     compact(zone, journal, &mut spare.journal, alloc, spare.generation)?;
     spare.generation = spare.generation.saturating_add(1);
     Ok(())
+}
+
+/// All operations of the spare file, if there is one, are done.
+pub(crate) fn spare_done<D: OwnedDisk + Drop>(spare: &mut Option<Spare<D>>)
+    ensures { IfSome spare.old (λ s. IsSpare D.Disk s.journal) → IfSome spare.new (λ s. IsSpare D.Disk s.journal) }
+{
+    if let Some(spare) = spare {
+        spare.journal.operations_done();
+    }
 }

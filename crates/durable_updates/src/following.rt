@@ -2,7 +2,7 @@
 
 ghost use Rattle.std.specs.Prelude.{◌≡◌, IfOk, OnOk};
 ghost use Rattle.zone_differences.specs.Histories.{IsKeptUp};
-ghost use Rattle.update_journal.specs.Read.{contents};
+ghost use Rattle.journal.specs.Read.{contents};
 ghost use Rattle.durable_updates.specs.Redone.{Redone, RedoesOne};
 ghost use Rattle.durable_updates.specs.Snapshots.{Recalls};
 ghost use Rattle.durable_updates.specs.Versions.{AreLed};

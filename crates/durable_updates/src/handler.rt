@@ -1,12 +1,7 @@
-//! A zone handler whose updates are on the disk before they are answered.
+//! A zone whose updates are on the disk before they are answered.
 
-ghost use Rattle.std.specs.Prelude.{◌≡◌, ◌⊎◌, IfErr, IfOk, IfSome, IsTrue, None, false};
-ghost use Rattle.hickory_base.specs.zone_store.ZoneAnswers.{LookedUp};
-ghost use Rattle.hickory_base.specs.declared.zone_store.lookup.LookupControlFlow.TheVariants.{Skip};
-ghost use Rattle.hickory_store.specs.updates.Permission.{transfer_permission};
-ghost use Rattle.hickory_store.specs.updates.TransferAnswers.{SearchedIn, TransferredAs};
+ghost use Rattle.std.specs.Prelude.{◌≡◌, ◌⊎◌, IfErr, IfOk, IfSome, IsTrue};
 ghost use Rattle.durable_updates.specs.Batches.{AnswersBatch};
-ghost use Rattle.durable_updates.specs.DurableUpdates.{AnswersDurably};
 ghost use Rattle.sqlite_disk.specs.Disk.{Only};
 ghost use Rattle.durable_updates.specs.Recorded.{AreRecovered, IsDurable, IsHandedBack, IsOpenedFrom, IsRecovered, IsRefused, IsSpare};
 ghost use Rattle.durable_updates.specs.Recovering.{counting};
@@ -14,8 +9,8 @@ ghost use Rattle.durable_updates.specs.OpenErrors.{is_no_journal};
 ghost use Rattle.durable_updates.specs.Snapshots.{Recalls};
 ghost use Rattle.durable_updates.specs.Versions.{AreFollowed};
 ghost use Rattle.hickory_base.specs.zone_store.ZoneAnswers.{MemoryZone};
-ghost use Rattle.update_journal.specs.Read.{contents};
-ghost use Rattle.update_journal.specs.Settled.{IsAtRest};
+ghost use Rattle.journal.specs.Read.{contents};
+ghost use Rattle.journal.specs.Settled.{IsAtRest};
 
 use crate::batches::{UpdateAnswer, update_all_durably};
 use crate::compaction::{CompactError, Spare, compact_into};
@@ -23,20 +18,13 @@ use crate::following::recall_followed;
 use crate::recovering::{TwoRecovered, recover_two};
 use crate::redoing::{RedoError, redo};
 use crate::snapshots::recall;
-use crate::updating::update_durably;
-use hickory_base::errors::{LookupError, UpdateFault};
-use hickory_base::server::{Request, RequestInfo};
-use hickory_base::zone_store::{
-    AuthLookup, AxfrPolicy, LookupControlFlow, LookupOptions, Nsec3QueryInfo, NxProofKind,
-    ZoneHandler, ZoneTransfer, ZoneType,
-};
+use hickory_base::server::Request;
 use hickory_store::updates::{UpdatableZoneHandler, Verifier};
-use hickory_wire::{LowerName, RecordType, TSigResponseContext};
+use journal::{Journal, RecoverError, generation, recover};
 use sqlite_disk::Disk;
 use std::alloc::{AllocError, Global};
 use std::marker::Model;
 use thiserror::Error;
-use update_journal::{Journal, RecoverError, generation, recover};
 use zone_differences::History;
 
 /// Why the journal of a zone was not opened.
@@ -50,9 +38,8 @@ pub enum OpenError {
     Entries(RedoError),
 }
 
-/// A zone that takes dynamic updates (RFC 2136) as `UpdatableZoneHandler` does, each of which is in a journal on the
-/// disk before it is answered `Ok`. Where the journal refuses an update, the answer is ServFail, and the zone is as
-/// before; queries go on.
+/// A zone that takes dynamic updates (RFC 2136) as `UpdatableZoneHandler` does by the RFCs. Each is in a journal on the
+/// disk before it is answered `Ok`. If the journal refuses an update, the answer is ServFail, and the zone is as before.
 ///
 /// A contract sees the zone alone. What it keeps with its journal is `IsDurable`, whatever is asked of it.
 #[derive(Drop)]
@@ -320,140 +307,5 @@ impl<V: Verifier, D: Disk + Drop> JournalledZone<V, D> {
     {
         let (zone, journal, _) = self.into_whole();
         (zone, journal)
-    }
-}
-
-impl<V: Verifier, D: Disk + Drop> ZoneHandler for JournalledZone<V, D> {
-    ghost zone_type_of = { λ handler. handler.zone.zone_type };
-
-    ghost axfr_policy_of = { λ handler. handler.axfr_policy };
-
-    ghost origin_of = { λ handler. handler.zone.origin };
-
-    ghost validates_dnssec = { λ _. false };
-
-    ghost nx_proof_kind_of = { λ _. None };
-
-    ghost lookup_gives = { λ handler name record_type _ _ answer. LookedUp handler.zone name record_type answer };
-
-    ghost search_gives = { λ handler request _ answer context. SearchedIn handler.zone request answer ×
-        (context ≡ None) };
-
-    ghost consult_gives = { λ _ _ _ _ _ last answer context. (answer ≡ last) × (context ≡ None) };
-
-    ghost transfer_gives = { λ handler request _ now answer.
-        TransferredAs handler.zone (transfer_permission V.Verifier handler.verifier handler.axfr_policy request now)
-        answer };
-
-    ghost nsec_gives = { λ _ _ _ answer. answer ≡ Skip };
-
-    ghost nsec3_gives = { λ _ _ _ answer. answer ≡ Skip };
-
-    ghost update_gives = { λ old request now answer context new.
-        AnswersDurably (Unit {0}) V.Verifier old (request, now) (answer, context) new };
-
-    fn zone_type(&self) -> ZoneType {
-        self.zone.zone_type()
-    }
-
-    fn axfr_policy(&self) -> AxfrPolicy {
-        self.zone.axfr_policy()
-    }
-
-    fn origin(&self) -> &LowerName {
-        self.zone.origin()
-    }
-
-    fn can_validate_dnssec(&self) -> bool {
-        self.zone.can_validate_dnssec()
-    }
-
-    fn nx_proof_kind(&self) -> Option<&NxProofKind> {
-        self.zone.nx_proof_kind()
-    }
-
-    fn lookup(
-        &self,
-        alloc: Global,
-        name: &LowerName,
-        record_type: RecordType,
-        info: Option<&RequestInfo<'_>>,
-        options: LookupOptions,
-    ) -> LookupControlFlow<AuthLookup<'_>> {
-        self.zone.lookup(alloc, name, record_type, info, options)
-    }
-
-    fn search(
-        &self,
-        alloc: Global,
-        request: &Request,
-        options: LookupOptions,
-    ) -> (
-        LookupControlFlow<AuthLookup<'_>>,
-        Option<TSigResponseContext>,
-    ) {
-        self.zone.search(alloc, request, options)
-    }
-
-    fn consult<'z>(
-        &'z self,
-        alloc: Global,
-        name: &LowerName,
-        record_type: RecordType,
-        info: Option<&RequestInfo<'_>>,
-        options: LookupOptions,
-        last: LookupControlFlow<AuthLookup<'z>>,
-    ) -> (
-        LookupControlFlow<AuthLookup<'z>>,
-        Option<TSigResponseContext>,
-    ) {
-        self.zone
-            .consult(alloc, name, record_type, info, options, last)
-    }
-
-    fn zone_transfer(
-        &self,
-        alloc: Global,
-        request: &Request,
-        options: LookupOptions,
-        now: u64,
-    ) -> Option<
-        (
-            Result<ZoneTransfer, LookupError>,
-            Option<TSigResponseContext>,
-        ),
-    > {
-        self.zone.zone_transfer(alloc, request, options, now)
-    }
-
-    fn nsec_records(
-        &self,
-        alloc: Global,
-        name: &LowerName,
-        options: LookupOptions,
-    ) -> LookupControlFlow<AuthLookup<'_>> {
-        self.zone.nsec_records(alloc, name, options)
-    }
-
-    fn nsec3_records(
-        &self,
-        alloc: Global,
-        info: Nsec3QueryInfo<'_>,
-        options: LookupOptions,
-    ) -> LookupControlFlow<AuthLookup<'_>> {
-        let info = Nsec3QueryInfo {
-            qtype: info.qtype,
-            ..info
-        };
-        self.zone.nsec3_records(alloc, info, options)
-    }
-
-    fn update(
-        &mut self,
-        alloc: Global,
-        request: &Request,
-        now: u64,
-    ) -> (Result<bool, UpdateFault>, Option<TSigResponseContext>) {
-        update_durably(&mut self.zone, &mut self.journal, alloc, request, now)
     }
 }

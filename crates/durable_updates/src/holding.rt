@@ -1,24 +1,25 @@
 //! A zone with a journal that may hold updates, to have them written together.
 
-ghost use Rattle.std.specs.Prelude.{◌≡◌, ◌*◌, ◌-◌, ◌^◌, ◌++◌, ◌∷◌, [], OnErr, OnOk, false, max, min, not, true};
-ghost use Rattle.update_journal.specs.Read.{contents};
+ghost use Rattle.std.specs.Prelude.{◌≡◌, ◌*◌, ◌-◌, ◌^◌, ◌++◌, ◌∷◌, [], OnErr, OnOk, false, max, min, not, option_copied, true};
+ghost use Rattle.journal.specs.Read.{contents};
 ghost use Rattle.durable_updates.specs.Batches.{AnswersRead, bytes_of, if_accepted};
 ghost use Rattle.durable_updates.specs.DurableUpdates.{AnswersDurably};
+ghost use Rattle.durable_updates.specs.Holding.{AreFilesOf};
 ghost use Rattle.durable_updates.specs.Recorded.{IsDurable};
 
 use crate::batches::{UpdateAnswer, write_held};
-use crate::compaction::{CompactError, Spare, compact_into};
+use crate::compaction::{CompactError, Spare, compact_into, spare_done};
 use crate::handler::JournalledZone;
 use crate::updating::update_durably;
 use hickory_base::errors::UpdateFault;
 use hickory_base::server::Request;
-use hickory_base::zone_store::ZoneHandler;
 use hickory_store::updates::{UpdatableZoneHandler, Verifier};
 use hickory_wire::ResponseCode;
+use journal::Journal;
+use journal::host_file::OwnedDisk;
 use sqlite_disk::Disk;
 use std::alloc::{AllocError, Global};
 use std::marker::Model;
-use update_journal::Journal;
 
 /// How many bytes a journal has for each record set of its zone before it is long: some three times what a snapshot of
 /// sets of one short record takes. So a journal is about as long as its zone and twice that of updates, which is what
@@ -49,9 +50,9 @@ fn put_entry(alloc: Global, request: &Request, entries: &mut Vec<Vec<u8>>) -> Re
     }
 }
 
-/// Makes an update in memory, as `UpdatableZoneHandler::update` does, and puts the bytes of its request last among the
-/// entries that are to be written, where it is made. One whose message was not read from its bytes is ServFail, and
-/// changes nothing. Nobody is to be answered before these are written, by `write_held`.
+/// Makes an update in memory, as `UpdatableZoneHandler::update_by` does by the RFCs. If it is made, the bytes of its
+/// request are put last among the entries that are to be written. One whose message was not read from its bytes is
+/// ServFail, and changes nothing. Nobody is to be answered before these are written, by `write_held`.
 pub fn update_held<V: Verifier>(
     zone: &mut UpdatableZoneHandler<V>,
     alloc: Global,
@@ -69,7 +70,7 @@ pub fn update_held<V: Verifier>(
     if put_entry(alloc, request, entries).is_err() {
         return (Err(UpdateFault::Memory), None);
     }
-    let (answer, context) = zone.update(alloc, request, now);
+    let (answer, context) = zone.update_by(alloc, request, now, true);
     if answer.is_err() {
         entries.pop();
     }
@@ -96,7 +97,7 @@ pub struct HoldingZone<V: Verifier, D: Disk + Drop> {
 impl<V: Verifier, D: Disk + Drop> Model for HoldingZone<V, D> {
     ghost use Rattle.std.specs.Prelude.{IfSome, option_map};
     ghost use Rattle.std.specs.Option.{is_some};
-    ghost use Rattle.update_journal.specs.Read.{contents};
+    ghost use Rattle.journal.specs.Read.{contents};
     ghost use Rattle.durable_updates.specs.Holding.{IsKeptBut, ZoneInMemory};
     ghost use Rattle.durable_updates.specs.Recorded.{IsSpare};
 
@@ -131,10 +132,27 @@ impl<V: Verifier, D: Disk + Drop> HoldingZone<V, D> {
         &self.zone
     }
 
+    /// Lets the zone take updates whose signatures this verifier finds good. Updates that are held stay.
+    pub fn set_updates(&mut self, verifier: V)
+        ensures { self.new ≡ record self.old {
+          updatable = record self.old.updatable { allow_update = true; verifier = verifier };
+        } }
+    {
+        self.zone.set_allow_update(true);
+        self.zone.set_verifier(verifier);
+    }
+
     /// Whether the journal takes entries. Once it does not, every update is ServFail, be it held or not, until the zone
     /// is recovered from the file.
     pub fn takes_updates(&self) -> bool {
         self.journal.is_open()
+    }
+
+    /// Shuts the journal, which takes no entries from then on. The zone and the updates that are held stay.
+    pub fn shut(&mut self)
+        ensures { self.new ≡ self.old }
+    {
+        self.journal.shut();
     }
 
     /// Has updates held from now on, until they are settled. A journal that takes no entries has none held: each update
@@ -234,5 +252,25 @@ impl<V: Verifier, D: Disk + Drop> HoldingZone<V, D> {
             last: _,
         } = self;
         (zone, journal)
+    }
+}
+
+impl<V: Verifier, D: OwnedDisk + Drop> HoldingZone<V, D> {
+    /// The file that the journal is in, and the one that it may be compacted into, if there is one.
+    pub fn files(&self) -> (&D, Option<&D>)
+        ensures { AreFilesOf D.Disk self.now.holds self.now.updatable.zone result.0.now (option_copied result.1) }
+    {
+        match &self.spare {
+            Some(spare) => (self.journal.disk(), Some(spare.journal.disk())),
+            None => (self.journal.disk(), None),
+        }
+    }
+
+    /// All operations of both files are done: none is owed. The zone and the updates that are held stay.
+    pub fn operations_done(&mut self)
+        ensures { self.new ≡ self.old }
+    {
+        self.journal.operations_done();
+        spare_done(&mut self.spare);
     }
 }

@@ -4,11 +4,11 @@ ghost use Rattle.std.specs.Prelude.{◌≡◌, ◌⊎◌, IfErr, IfOk, IsTrue};
 ghost use Rattle.sqlite_disk.specs.Disk.{Only};
 ghost use Rattle.durable_updates.specs.Recorded.{IsHandedBack, IsRefused};
 ghost use Rattle.durable_updates.specs.Recovering.{AreFound, counting};
-ghost use Rattle.update_journal.specs.Errors.{is_refusal};
+ghost use Rattle.journal.specs.Errors.{is_refusal};
 
+use journal::{RecoverError, Recovered, is_newer, recover};
 use sqlite_disk::Disk;
 use std::alloc::Global;
-use update_journal::{RecoverError, Recovered, is_newer, recover};
 
 /// What was found in two files, and which of them counts.
 #[derive(Drop)]

@@ -4,7 +4,7 @@ ghost use Rattle.std.specs.Prelude.{◌≡◌, ◌++◌, List, ℕ, IfOk, IfSome
 ghost use Rattle.hickory_base.specs.zone_store.ZoneAnswers.{soa_serial, zone_soa};
 ghost use Rattle.wire_reading.specs.serialize.reading.MessageReading.{Reads};
 ghost use Rattle.hickory_base.specs.requests.RequestReading.{message_of};
-ghost use Rattle.update_journal.specs.Read.{contents};
+ghost use Rattle.journal.specs.Read.{contents};
 ghost use Rattle.zone_differences.specs.Standing.{IsChangedBy};
 ghost use Rattle.durable_updates.specs.Redone.{Makes, Redone, RedoesOne};
 
@@ -56,8 +56,8 @@ pub fn read_entry(alloc: Global, entry: &[u8]) -> Result<Request, RedoError>
     }
 }
 
-/// Does an update section again that passes the prescan, and tells whether it changed the zone. One that is refused,
-/// for want of an SOA, leaves the zone as it was when it came.
+/// Does an update section again that passes the prescan, by the RFCs, and reports whether it changed the zone. One that
+/// is refused, since the zone has no SOA, leaves the zone as it was when it came.
 pub(crate) fn redo_updates<V: Verifier>(
     zone: &mut UpdatableZoneHandler<V>,
     alloc: Global,
@@ -71,7 +71,7 @@ pub(crate) fn redo_updates<V: Verifier>(
     let Ok(()) = zone.pre_scan(updates) else {
         return Err(RedoError::Damaged);
     };
-    match zone.update_records(alloc, updates, true) {
+    match zone.update_records_by(alloc, updates, true, true) {
         Ok(changed) => Ok(changed),
         Err(UpdateFault::Code(_)) => Ok(false),
         Err(UpdateFault::Memory) => Err(RedoError::Memory),

@@ -5,7 +5,7 @@ ghost use Rattle.hickory_base.specs.zone_store.ZoneAnswers.{soa_serial, zone_soa
 ghost use Rattle.hickory_base.specs.zone_store.ZoneSets.{sets_of, zone_records};
 ghost use Rattle.hickory_store.specs.updates.Identity.{SameZone, same_record};
 ghost use Rattle.hickory_store.specs.updates.UpdateLaws.{HasOneSoa, HoldsIn};
-ghost use Rattle.update_journal.specs.Read.{contents};
+ghost use Rattle.journal.specs.Read.{contents};
 ghost use Rattle.durable_updates.specs.Snapshots.{IsAnswer, IsBase, IsSnapshot, Recalls, Say, Says};
 ghost use Rattle.wire_messages.specs.declared.rr.record.Record.{Record as ResourceRecord};
 ghost use Rattle.wire_messages.specs.declared.rr.rdata.RData.{RData as Data};

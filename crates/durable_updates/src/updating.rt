@@ -14,9 +14,9 @@ use hickory_base::server::Request;
 use hickory_base::update_request::UpdateRequest;
 use hickory_store::updates::{UpdatableZoneHandler, Verifier};
 use hickory_wire::{ResponseCode, TSigResponseContext};
+use journal::{Journal, JournalError};
 use sqlite_disk::Disk;
 use std::alloc::Global;
-use update_journal::{Journal, JournalError};
 
 /// Adds a request to the journal. Where the journal refuses it, or its message was not read from its bytes, that is
 /// ServFail, and `Memory` where memory was refused.
@@ -62,7 +62,7 @@ fn write_and_do<V: Verifier, D: Disk>(
     ensures clean { D.is_clean journal.new.disk ≡ D.is_clean journal.old.disk }
 {
     write(journal, alloc, request)?;
-    match zone.update_records(alloc, request.message().updates(), true) {
+    match zone.update_records_by(alloc, request.message().updates(), true, true) {
         Ok(changed) => Ok(changed),
         Err(fault) => {
             journal.shut();
@@ -112,7 +112,7 @@ pub(crate) fn told_context(
 /// Makes the update that a request asks for (RFC 2136 section 3), once its bytes are on the disk. `now` is in seconds
 /// since 1970.
 ///
-/// First it is judged as `UpdatableZoneHandler::update` judges it; a request that is refused is not written. With an
+/// First it is judged as `UpdatableZoneHandler::update_by` judges it by the RFCs; a request that is refused is not written. With an
 /// answer of `Ok` its bytes are an entry of the journal. Where the journal refuses them, as it takes no entry or they
 /// are 2^32 or more, or where the message was not read from them, the answer is ServFail, and the zone is as before. A
 /// journal in which a write has failed, or whose last entry was not done for want of memory, is shut: every update is

@@ -8,6 +8,6 @@ mod responses;
 pub mod server;
 pub mod zone_store;
 
-pub use access_control as access;
 pub use requests::{message_request, message_sameness, request_laws, update_request};
 pub use responses::{encoding_sink, message_response};
+pub use server_limits::access_control as access;

@@ -6,17 +6,18 @@ ghost use Rattle.std.specs.Option.{option_copied};
 ghost use Rattle.wire_messages.specs.serialize.writing.Reply.{Reply};
 ghost use Rattle.hickory_base.specs.responses.Responses.{header_of};
 ghost use Rattle.hickory_catalog.specs.zones.Find.{Finds};
-ghost use Rattle.hickory_catalog.specs.queries.Queries.{QueryAnswered};
+ghost use Rattle.hickory_catalog.specs.queries.Queries.{ChainReplies, QueryAnswered};
 ghost use Rattle.hickory_catalog.specs.replies.ReplyEdns.{reply_edns};
 ghost use Rattle.hickory_catalog.specs.requests.Requests.{BelongsTo, RequestAnswered, RequestLeaves};
 ghost use Rattle.hickory_catalog.specs.replies.Sending.{IsUntouched, Sends, SendsInOrder};
 ghost use Rattle.hickory_catalog.specs.requests.Server.{server_of};
 ghost use Rattle.hickory_catalog.specs.updates.Updates.{UpdateAnswered, UpdateLeaves};
 ghost use Rattle.hickory_catalog.specs.transfers.WholeTransfers.{TransferReplies};
+ghost use Rattle.hickory_catalog.specs.zones.Kept.{KeptAt};
 ghost use Rattle.hickory_catalog.specs.zones.Zones.{AreInOrder, ChangesAt, HasZone};
 
 use crate::edns::{cloned, reply_edns};
-use crate::queries::answer_query;
+use crate::queries::{ZoneQuery, answer_by_given, answer_query};
 use crate::requests::request_fault;
 use crate::sending::send_error;
 use crate::signer::ReplySigner;
@@ -26,7 +27,7 @@ use crate::zones::Zones;
 use hickory_base::errors::CatalogError;
 use hickory_base::server::{Request, RequestHandler, ResponseHandler, ResponseInfo};
 use hickory_base::zone_store::ZoneHandler;
-use hickory_wire::{Edns, LowerName, NSIDPayload, OpCode};
+use hickory_wire::{Edns, LowerName, NSIDPayload, OpCode, ResponseCode};
 use std::alloc::{AllocError, Global};
 
 /// The zones that a server answers for, each with the chain of its handlers, what identifies the server, and what signs
@@ -43,6 +44,9 @@ pub struct Catalog<S: ReplySigner, H: ZoneHandler = Box<dyn ZoneHandler>> {
 }
 
 impl<S: ReplySigner, H: ZoneHandler> Catalog<S, H> {
+    ghost use Rattle.std.specs.Borrow.{sem};
+    ghost use Rattle.hickory_catalog.specs.zones.Lending.{LendsFromCatalog};
+
     /// A catalog without zones and without an identifier. It takes no memory.
     pub fn new(alloc: Global, signer: S) -> Catalog<S, H>
         ensures { result ≡ record { zones = []; nsid = None; signer = signer } }
@@ -82,6 +86,16 @@ impl<S: ReplySigner, H: ZoneHandler> Catalog<S, H> {
         ensures others { self.new ≡ record self.old { zones = self.new.zones } }
     {
         self.zones.remove(name)
+    }
+
+    /// The chain of handlers of the zone whose apex is this name, lent to be changed, or `None` if no zone has this
+    /// apex. Letter case does not matter. Whatever is done to the chain, all other zones remain as they were. The time
+    /// grows with the logarithm of the number of zones. It takes no memory.
+    pub fn zone_mut(&mut self, apex: &LowerName) -> Option<&mut Vec<H>>
+        ensures* writes_back { sem 𝓛 (LendsFromCatalog S.row H.row self.entry apex.now result) }
+        ensures value { KeptAt self.old.zones apex.now (option_map (λ chain. chain.now.items) result) }
+    {
+        self.zones.zone_mut(apex)
     }
 
     /// Whether there is a zone of this apex.
@@ -169,6 +183,50 @@ impl<S: ReplySigner, H: ZoneHandler> Catalog<S, H> {
     {
         let mut edns = cloned(edns)?;
         answer_query(self, alloc, request, &mut edns, now, sink)
+    }
+
+    /// Answers a query by this chain of handlers, whichever zone is nearest to its name, as `handle_request` answers a
+    /// query of the zone that has this chain, and hands the sink one reply, or those of a transfer. So a server answers
+    /// a query for the DS records of an apex by the zone above it (RFC 4035 section 3.1.4.1). QR, opcode and EDNS
+    /// version of the request are not looked at.
+    ///
+    /// If there is not just one question, the reply is FormErr. `Memory` says that no reply was handed over.
+    pub fn lookup_by<R: ResponseHandler>(
+        &self,
+        chain: &[H],
+        alloc: Global,
+        request: &Request,
+        now: u64,
+        sink: &mut R,
+    ) -> Result<ResponseInfo, CatalogError>
+        ensures replied { IfOk result (λ info. (replies : List Reply) ×
+            ChainReplies (server_of H.ZoneHandler S.signature_for self.now) chain.now request.now
+            (reply_edns self.now.nsid request.now.message.edns) now replies ×
+            SendsInOrder R.ResponseHandler request.now.message.metadata sink.old sink.new replies (header_of info)) }
+        ensures refused { IfErr result (λ e. (e ≡ CatalogError.Memory) ×
+            IsUntouched R.ResponseHandler sink.old sink.new) }
+    {
+        let message = request.message();
+        let mut edns = reply_edns(alloc, self.nsid(), message.edns.as_ref())?;
+        let info = match request.request_info() {
+            Ok(info) => info,
+            Err(_) => return Ok(send_error(
+                sink,
+                alloc,
+                message,
+                &mut edns,
+                ResponseCode::FORM_ERR,
+            )),
+        };
+        let asked = ZoneQuery {
+            catalog: self,
+            chain,
+            alloc,
+            request,
+            query: info.query,
+            moment: now,
+        };
+        answer_by_given(&asked, &mut edns, sink)
     }
 
     /// Answers a query by a transfer of the whole zone of its name, whatever type it asks for, as `handle_request`

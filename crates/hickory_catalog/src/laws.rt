@@ -4,14 +4,15 @@ ghost use Rattle.std.specs.Prelude.{◌≡◌, List};
 ghost use Rattle.wire_messages.specs.serialize.writing.Reply.{Reply};
 ghost use Rattle.wire_messages.specs.declared.op.header.Header.{Header};
 ghost use Rattle.wire_messages.specs.declared.op.header.Metadata.{Metadata};
-ghost use Rattle.hickory_catalog.specs.requests.Alone.{ApexesStay, OfZoneIsDecided, OneChain, OthersStay, ServedAlone};
+ghost use Rattle.hickory_catalog.specs.requests.Alone.{ApexesStay, ChainServedAlone, OfZoneIsDecided, OneChain, OthersStay, ServedAlone};
 ghost use Rattle.hickory_catalog.specs.queries.AuthoritativeLaws.{AuthoritativeCodes, AuthoritativeHeaders, NegativeReplies, ReferralsAreNoAnswers};
-ghost use Rattle.hickory_catalog.specs.replies.DecodedReplies.{CatalogReplyDecodes, ErrorRepliesFit, QueryRepliesFit, ReplyEdnsFits, RequestRepliesFit, SignedRepliesFit, TransferRepliesFit, UpdateRepliesFit};
+ghost use Rattle.hickory_catalog.specs.replies.DecodedReplies.{CatalogReplyDecodes, ChainRepliesFit, ErrorRepliesFit, QueryRepliesFit, ReplyEdnsFits, RequestRepliesFit, SignedRepliesFit, TransferRepliesFit, UpdateRepliesFit};
 ghost use Rattle.hickory_catalog.specs.queries.ForwardedLaws.{AuthenticWhereProved, DnssecRecordsOnDemand, ForwardedCodes, ForwardedHeaders, NothingBogusPassedOn, RefusedWithoutRecursion, SoaOfNegativeAnswer};
 ghost use Rattle.hickory_catalog.specs.requests.OneReply.{OneReply};
 ghost use Rattle.hickory_catalog.specs.replies.Sending.{AreTaken, SendsInOrder};
 ghost use Rattle.hickory_catalog.specs.transfers.TransferLaws.{AnswersAreTheTransfer, NoAnswerIsCut, OneWayToRun};
 ghost use Rattle.hickory_catalog.specs.transfers.WholeTransfers.{TransferredAlone};
+ghost use Rattle.hickory_catalog.specs.zones.Find.{OneNearest};
 
 use crate::signer::ReplySigner;
 use hickory_base::server::ResponseHandler;
@@ -43,11 +44,12 @@ pub fn authoritative_replies<H: ZoneHandler>()
     ensures negative { NegativeReplies H.ZoneHandler }
 {}
 
-/// What the replies of a catalog, to a query, to one that is answered by a transfer, to an update, with an error, or to
+/// What the replies of a catalog, to a query, to one that a given chain answers or a transfer, to an update, with an error, or to
 /// whatever the request is, have of their requests: id, opcode, questions, and EDNS with the high bits of their code.
 /// None has TC of its own (RFC 1035 section 4.1.1, RFC 6891 section 6.1.3).
 pub fn replies_of_requests<S: ReplySigner, H: ZoneHandler>()
     ensures queries { QueryRepliesFit H.ZoneHandler S.signature_for }
+    ensures chains { ChainRepliesFit H.ZoneHandler S.signature_for }
     ensures updates { UpdateRepliesFit H.ZoneHandler S.signature_for }
     ensures requests { RequestRepliesFit H.ZoneHandler S.signature_for }
     ensures transfers { TransferRepliesFit H.ZoneHandler S.signature_for }
@@ -84,7 +86,8 @@ pub fn transfers_in_several_replies()
 /// Each zone is served as if it were the only one: a request to it has the replies that it would have there, and leaves
 /// it as it would there; any other request leaves it as it was; no request makes or removes a zone; and of each request
 /// it is decided whether it is to a zone. A request that is answered by the whole zone has the replies that it would
-/// have there.
+/// have there, and so has a query that the zone's chain is given, if the zone may answer for its name. One zone at most
+/// is the nearest to a name.
 pub fn zones_apart<S: ReplySigner, H: ZoneHandler>()
     ensures alone { ServedAlone H.ZoneHandler S.signature_for }
     ensures others { OthersStay H.ZoneHandler S.signature_for }
@@ -92,6 +95,8 @@ pub fn zones_apart<S: ReplySigner, H: ZoneHandler>()
     ensures one_chain { OneChain H }
     ensures decided { OfZoneIsDecided H }
     ensures transfers { TransferredAlone H.ZoneHandler S.signature_for }
+    ensures chains { ChainServedAlone H.ZoneHandler S.signature_for }
+    ensures nearest { OneNearest (List H) }
 {}
 
 /// A sink that counted no failure took all replies that were handed over, in their order, one entry for each.

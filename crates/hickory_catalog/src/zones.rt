@@ -2,6 +2,7 @@
 
 ghost use Rattle.std.specs.Prelude.{◌≡◌, ◌↔◌, [], true, IfOk, IfErr, OnErr, IsTrue, Some, None, option_map};
 ghost use Rattle.wire_names.specs.rr.domain.NameOrder.{Encloses};
+ghost use Rattle.hickory_catalog.specs.zones.Kept.{KeptAt};
 ghost use Rattle.hickory_catalog.specs.zones.Zones.{AreInOrder, HasZone, ChangesAt};
 ghost use Rattle.hickory_catalog.specs.updates.Updates.{ZoneUpdated};
 ghost use Rattle.hickory_catalog.specs.zones.Find.{Finds, OneAnswers, CaseDoesNotMatter};
@@ -38,6 +39,9 @@ impl<H> Model for Zones<H> {
 }
 
 impl<H: Drop> Zones<H> {
+    ghost use Rattle.std.specs.Borrow.{sem};
+    ghost use Rattle.hickory_catalog.specs.zones.Lending.{LendsFromZones};
+
     /// No zones. It takes no memory.
     pub fn new(alloc: Global) -> Zones<H>
         ensures { result ≡ [] }
@@ -84,6 +88,16 @@ impl<H: Drop> Zones<H> {
         ensures { IsTrue result ↔ HasZone self.now name.now }
     {
         self.chains.contains_key(name)
+    }
+
+    /// The chain of handlers of the zone whose apex is this name, lent to be changed, or `None` if no zone has this
+    /// apex. Letter case does not matter. Whatever is done to the chain, all other zones remain as they were. The time
+    /// grows with the logarithm of the number of zones. It takes no memory.
+    pub fn zone_mut(&mut self, name: &LowerName) -> Option<&mut Vec<H>>
+        ensures* writes_back { sem 𝓛 (LendsFromZones H.row self.entry name.now result) }
+        ensures value { KeptAt self.old name.now (option_map (λ chain. chain.now.items) result) }
+    {
+        self.chains.get_mut(name)
     }
 
     /// The chain of handlers of the zone that answers for a name: for a fully qualified name the fully qualified zone

@@ -1,12 +1,15 @@
 //! Requests, and what replies are handed to.
 
+mod above;
 pub mod answer;
 mod datagrams;
+pub mod form_error;
 mod no_keys;
 pub mod rule_laws;
 pub mod rules;
 pub mod serve;
 pub mod service;
+pub mod writing;
 
 pub use answer::Answer;
 pub use hickory_base::encoding_sink::EncodingSink;

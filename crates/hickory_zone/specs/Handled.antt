@@ -4,13 +4,13 @@ use Rattle.std.specs.Bool.{MatchBool}
 use Rattle.std.specs.List.{AllByRecursion}
 use Rattle.wire_names.specs.rr.domain.DomainName.{DomainName}
 use Rattle.wire_names.specs.rr.domain.NameOrder.{lower_name, name_eq}
-use Rattle.wire_messages.specs.Numbers.{class_in, code_no_error, code_not_auth, code_nx_domain, type_ixfr, type_soa}
+use Rattle.wire_messages.specs.Numbers.{class_in, code_no_error, code_nx_domain, type_ixfr, type_soa}
 use Rattle.wire_messages.specs.declared.op.query.Query.{Query}
 use Rattle.hickory_base.specs.requests.Questions.{one_query}
 use Rattle.hickory_base.specs.requests.Requests.{ReceivedRequest}
 use Rattle.hickory_base.specs.zone_store.Lookups.{Flow}
 use Rattle.hickory_base.specs.zone_store.Serials.{is_greater}
-use Rattle.hickory_base.specs.zone_store.ZoneAnswers.{MemoryZone, SoaTransferred, Transferred, no_data, no_name, soa_serial, zone_soa}
+use Rattle.hickory_base.specs.zone_store.ZoneAnswers.{MemoryZone, no_data, no_name, soa_serial, zone_soa}
 use Rattle.hickory_base.specs.declared.errors.LookupError.{LookupError}
 use Rattle.hickory_base.specs.declared.errors.LookupError.TheVariants.{Memory, ResponseCode}
 use Rattle.hickory_base.specs.declared.zone_store.handler.ZoneType.{ZoneType}
@@ -19,12 +19,10 @@ use Rattle.hickory_base.specs.declared.zone_store.lookup.AuthLookup.{AuthLookup}
 use Rattle.hickory_base.specs.declared.zone_store.lookup.AuthLookup.TheVariants as lookup
 use Rattle.hickory_base.specs.declared.zone_store.lookup.LookupControlFlow.TheVariants.{Break, Continue}
 use Rattle.hickory_base.specs.declared.zone_store.lookup.WholeReply.{WholeReply}
-use Rattle.hickory_base.specs.declared.zone_store.lookup.ZoneTransfer.{ZoneTransfer}
 use Rattle.wire_messages.specs.declared.protocol.Protocol.{Protocol}
 use Rattle.wire_messages.specs.declared.protocol.Protocol.TheVariants.{Udp}
 use Rattle.wire_messages.specs.declared.rr.rdata.RData.{RData}
 use Rattle.wire_messages.specs.declared.rr.rdata.RData.TheVariants as rdata
-use Rattle.wire_messages.specs.declared.rr.tsig.TSigResponseContext.{TSigResponseContext}
 use Rattle.hickory_zone.specs.Additionals.{is_hostless}
 use Rattle.hickory_zone.specs.Replies.{RepliesTo, denial_soa, is_class, whole, as_zone}
 use Rattle.hickory_zone.specs.Zones.{Records, Zone}
@@ -100,15 +98,3 @@ is_datagram other = false
 abbrev pub is_by_soa : MemoryZone → ReceivedRequest → Query → Bool
 is_by_soa zone request query =
     query.query_type == type_ixfr && (is_datagram request.protocol || is_no_older (held_serial request.message.authorities) (soa_serial (zone_soa zone)))
-
--- What is given for a transfer of the zone: as by a zone in memory, and the SOA alone where that is enough.
-abbrev pub IsGiven : MemoryZone → ReceivedRequest → Query → Option (Result ZoneTransfer LookupError × Option TSigResponseContext) → Type 0
-IsGiven zone request query answer = MatchBool (is_by_soa zone request query) (SoaTransferred zone answer) (Transferred zone answer)
-
--- A transfer is given of the zone; of any other name the server holds no zone: NOTAUTH (RFC 5936 section 2.2.1).
-abbrev pub TransferredFor : MemoryZone → ReceivedRequest → Result Query LookupError → Option (Result ZoneTransfer LookupError × Option TSigResponseContext) → Type 0
-TransferredFor zone request (Ok query) answer = MatchBool (names_zone (as_zone zone) query) (IsGiven zone request query answer) (answer ≡ Some (Err (ResponseCode code_not_auth), None))
-TransferredFor zone request (Err e) answer = answer ≡ Some (Err e, None)
-
-abbrev pub TransferAnswered : MemoryZone → ReceivedRequest → Option (Result ZoneTransfer LookupError × Option TSigResponseContext) → Type 0
-TransferAnswered zone request answer = TransferredFor zone request (one_query request.message.queries.queries) answer

@@ -2,7 +2,6 @@ pub mod Additionals
 pub mod Chains
 pub mod Endings
 pub mod Handled
-pub mod Parents
 pub mod Redirections
 pub mod Replies
 pub mod WorkedRedirections

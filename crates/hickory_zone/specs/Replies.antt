@@ -1,5 +1,5 @@
 -- What a zone replies to a query, as one whole reply.
-use Rattle.std.specs.Prelude.{◌≡◌, ◌==◌, ◌||◌, ℕ, Bool, true, false, not, min, [], length}
+use Rattle.std.specs.Prelude.{◌≡◌, ◌==◌, ◌||◌, ℕ, Bool, true, false, cond, not, min, [], length}
 use Rattle.std.specs.Option.{option_map, option_to_list}
 use Rattle.wire_names.specs.rr.domain.DomainName.{DomainName}
 use Rattle.wire_names.specs.rr.domain.NameOrder.{lower_name}
@@ -11,7 +11,7 @@ use Rattle.wire_messages.specs.declared.rr.record.Record.{Record}
 use Rattle.hickory_base.specs.zone_store.ZoneAnswers.{MemoryZone, first_record}
 use Rattle.hickory_base.specs.declared.zone_store.lookup.WholeReply.{WholeReply}
 use Rattle.hickory_zone.specs.declared.additionals.Source.TheVariants as source
-use Rattle.hickory_zone.specs.Additionals.{AreAdditionals, hosts_of}
+use Rattle.hickory_zone.specs.Additionals.{AreAdditionals}
 use Rattle.hickory_zone.specs.Chains.{Chases, IsIn}
 use Rattle.hickory_zone.specs.Endings.{Ending}
 use Rattle.hickory_zone.specs.Endings as ended
@@ -52,8 +52,8 @@ reply_of zone chain ended.left_open additionals = whole code_no_error true chain
 
 -- The additional section: the addresses of the hosts that the answers name, or of the servers of a zone below.
 abbrev pub IsCompleted : Zone → Records → Ending → Records → Type 0
-IsCompleted zone chain ended.answer additionals = AreAdditionals source.Answer zone chain (hosts_of chain) additionals
-IsCompleted zone chain (ended.referral servers) additionals = AreAdditionals source.Glue zone chain (hosts_of servers) additionals
+IsCompleted zone chain ended.answer additionals = AreAdditionals source.Answer zone chain chain additionals
+IsCompleted zone chain (ended.referral servers) additionals = AreAdditionals source.Glue zone chain servers additionals
 IsCompleted zone chain other additionals = additionals ≡ []
 
 -- The reply where the answer section has these records of a chain, which ends so.
@@ -82,10 +82,14 @@ pub record IsReplied (zone : Zone) (name : DomainName) (t : ℕ) (reply : WholeR
   pub chases : Chases zone t most_aliases [] name chain ending
   pub ends_in : EndsIn zone chain ending reply
 
+-- the reply to a question of this class: no reply to any class is authoritative (RFC 1035 section 6.2)
+abbrev pub in_class : ℕ → WholeReply → WholeReply
+in_class class reply = cond (class == class_any) (record reply { authoritative = false }) reply
+
 -- What the zone replies to a question. One that is not of it is refused, and not as authority (RFC 1035 section 4.1.1).
 pub data RepliesTo (zone : Zone) (query : Query) : WholeReply → Type 0 where
   refuses : ¬ (IsOfZone zone query) → RepliesTo zone query (whole code_refused false [] [] [])
-  replies : {reply : WholeReply} → IsOfZone zone query → IsReplied zone query.name query.query_type reply → RepliesTo zone query reply
+  replies : {reply : WholeReply} → IsOfZone zone query → IsReplied zone query.name query.query_type reply → RepliesTo zone query (in_class query.query_class reply)
 
 -- A zone has at most one reply to a question.
 abbrev pub OneReply : Type 0

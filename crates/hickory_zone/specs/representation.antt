@@ -5,5 +5,6 @@ pub mod FoundRecords
 pub mod Grown
 pub mod Indexes
 pub mod KeysBeside
+pub mod PreparedZones
 pub mod ReplyAtOnce
 pub mod TopCuts

@@ -8,10 +8,11 @@ ghost use Rattle.hickory_base.specs.zone_store.ZoneSets.{sets_of};
 ghost use Rattle.wire_names.specs.declared.error.DecodeError.TheVariants as decode_error;
 ghost use Rattle.wire_messages.specs.Numbers.{type_a, type_aaaa};
 ghost use Rattle.hickory_zone.specs.Zones.{AreOwners};
+ghost use Rattle.wire_names.specs.rr.domain.DomainName.{DomainName};
 ghost use Rattle.hickory_zone.specs.representation.Features.{AreFeatures};
 ghost use Rattle.hickory_zone.specs.declared.additionals.Source.TheVariants as source;
-ghost use Rattle.hickory_zone.specs.Additionals.{AreAdditionals, Gains, IsHad, at_most_one, first_name, host_in, hosts_of, is_hostless, is_of_hosts, name_from, some_records, target_start};
-ghost use Rattle.hickory_zone.specs.representation.Grown.{AreGained, IsGlue, IsGrown};
+ghost use Rattle.hickory_zone.specs.Additionals.{AreAdditionals, Gains, GainsFor, IsAnswered, IsHad, first_name, glue_of, has_glue, host_in, is_hostless, is_of_hosts, name_from, some_records, source_of, target_start};
+ghost use Rattle.hickory_zone.specs.representation.Grown.{AreGained, IsGrown};
 
 use crate::chains::{append_copies, append_name, append_name_owned, append_owned, is_in};
 use crate::features::Features;
@@ -125,34 +126,38 @@ fn host(alloc: Global, q: &Record) -> Result<Option<Name>, AllocError>
     }
 }
 
-/// Puts the host that a record names last, if it names one.
-fn append_host(alloc: Global, q: &Record, hosts: &mut Vec<Name>) -> Result<(), AllocError>
-    ensures { OnOk result (hosts.new.items ≡ hosts.old.items ++ at_most_one (host_in q.now.rdata)) }
-{
-    if let Some(name) = host(alloc, q)? {
-        hosts.push(name)?;
-    }
-    Ok(())
-}
-
-/// The hosts that records name, in their order.
-fn hosts_of(alloc: Global, records: &[Record]) -> Result<Vec<Name>, AllocError>
-    ensures { IfOk result (λ hosts. hosts.items ≡ hosts_of records.now) }
-{
-    let mut hosts = Vec::new(alloc);
-    for q in records {
-        append_host(alloc, q, &mut hosts)?;
-    }
-    Ok(hosts)
-}
-
 /// Where the addresses of a host are taken from.
 #[derive(Clone, Copy)]
 pub enum Source {
     /// From what the zone answers for it.
     Answer,
-    /// From what stands in the zone, glue too.
+    /// From what the zone answers for it, or from glue if it is at a cut or below it.
+    AnswerOrGlue,
+    /// From what the zone has, glue too.
     Glue,
+}
+
+/// Whether glue is added to an answer for a host that data of the type name.
+fn has_glue(record_type: RecordType) -> bool
+    ensures { result ≡ has_glue record_type }
+{
+    record_type == RecordType::NS || record_type == RecordType::MX || record_type.value() == SRV
+}
+
+/// Where the addresses of the host that a record names are taken from.
+fn source_of(source: Source, q: &Record) -> Source
+    ensures { result ≡ source_of source q.now.rdata }
+{
+    match source {
+        Source::Answer => {
+            if has_glue(q.rdata.record_type()) {
+                Source::AnswerOrGlue
+            } else {
+                Source::Answer
+            }
+        }
+        _ => source,
+    }
 }
 
 /// Whether a record is of the key's name and of a type.
@@ -170,19 +175,21 @@ fn has_of(key: &RrKey, record_type: RecordType, records: &[Record]) -> bool
     records.iter().any(|q| is_of(key, record_type, q))
 }
 
-/// The addresses that stand in the zone under the key's name, where they are taken from there. No type is below that of
-/// the key.
+/// The addresses that the zone has under the key's name, glue too, if the source has glue. No type is below that of the
+/// key.
 fn glue<'z>(source: Source, sets: &'z BTreeMap<RrKey, Rc<RecordSet>>, host: &RrKey) -> Addresses<'z>
     requires { host.now.record_type ≡ 0 }
-    ensures four { IsGlue source (sets_of sets.now) host.now.name type_a (option_copied result.four) }
-    ensures six { IsGlue source (sets_of sets.now) host.now.name type_aaaa (option_copied result.six) }
+    ensures four { (origin : DomainName) → some_records (option_copied result.four) ≡
+        glue_of source (record { origin = origin; sets = sets_of sets.now }) host.now.name type_a }
+    ensures six { (origin : DomainName) → some_records (option_copied result.six) ≡
+        glue_of source (record { origin = origin; sets = sets_of sets.now }) host.now.name type_aaaa }
 {
     match source {
         Source::Answer => Addresses {
             four: None,
             six: None,
         },
-        Source::Glue => addresses_at(sets, host),
+        _ => addresses_at(sets, host),
     }
 }
 
@@ -196,21 +203,23 @@ fn append_glue(found: Option<&[Record]>, all: &mut Vec<Record>) -> Result<(), Al
     }
 }
 
-/// Puts copies of what the zone answers for the key's name and a type last. No type is below that of the key.
+/// Puts copies of what the zone answers for the key's name and a type last, or of this glue if the name is at a cut or
+/// below it. No type is below that of the key.
 fn append_answer(
     alloc: Global,
     origin: &LowerName,
     sets: &BTreeMap<RrKey, Rc<RecordSet>>,
     host: &RrKey,
     record_type: RecordType,
+    glue: Option<&[Record]>,
     has: Features,
     all: &mut Vec<Record>,
 ) -> Result<(), AllocError>
     requires least { host.now.record_type ≡ 0 }
     requires owners { AreOwners origin.now (sets_of sets.now) }
     requires features { AreFeatures (record { origin = origin.now; sets = sets_of sets.now }) has }
-    ensures { OnOk result (IsGrown
-        (IsHad source.Answer (record { origin = origin.now; sets = sets_of sets.now }) host.now.name record_type)
+    ensures { OnOk result (IsGrown (IsAnswered (some_records (option_copied glue.entry))
+        (record { origin = origin.now; sets = sets_of sets.now }) host.now.name record_type)
         all.old.items all.new.items) }
 {
     if !is_in(origin, &host.name) {
@@ -221,12 +230,13 @@ fn append_answer(
         Found::WildAnswer(records) => append_owned(all, host.name.as_name(), records),
         Found::Every => append_name(sets, host, all),
         Found::WildEvery(key) => append_name_owned(alloc, sets, key, host.name.as_name(), all),
+        Found::Referral(_) => append_glue(glue, all),
         _ => Ok(()),
     }
 }
 
-/// Puts copies of the records last that are to be had for the key's name and a type, of which these stand in the zone.
-/// No type is below that of the key.
+/// Puts copies of the records last that are to be had for the key's name and a type, of which these are the zone's if
+/// the source has glue. No type is below that of the key.
 fn append_from(
     alloc: Global,
     origin: &LowerName,
@@ -234,26 +244,26 @@ fn append_from(
     source: Source,
     host: &RrKey,
     record_type: RecordType,
-    stands: Option<&[Record]>,
+    glue: Option<&[Record]>,
     has: Features,
     all: &mut Vec<Record>,
 ) -> Result<(), AllocError>
     requires least { host.now.record_type ≡ 0 }
     requires owners { AreOwners origin.now (sets_of sets.now) }
     requires features { AreFeatures (record { origin = origin.now; sets = sets_of sets.now }) has }
-    requires stands { IsGlue source (sets_of sets.now) host.now.name record_type (option_copied stands) }
+    requires glue { some_records (option_copied glue) ≡
+        glue_of source (record { origin = origin.now; sets = sets_of sets.now }) host.now.name record_type }
     ensures { OnOk result (IsGrown
         (IsHad source (record { origin = origin.now; sets = sets_of sets.now }) host.now.name record_type) all.old.items
         all.new.items) }
 {
     match source {
-        Source::Answer => append_answer(alloc, origin, sets, host, record_type, has, all),
-        Source::Glue => append_glue(stands, all),
+        Source::Glue => append_glue(glue, all),
+        _ => append_answer(alloc, origin, sets, host, record_type, glue, has, all),
     }
 }
 
-/// Puts the addresses of a host behind the others, where a reply of these answers and additionals has no such records
-/// yet.
+/// Puts the addresses of a host after the others, if a reply of these answers and additionals has no such records yet.
 fn append_once(
     alloc: Global,
     origin: &LowerName,
@@ -262,14 +272,15 @@ fn append_once(
     answers: &[Record],
     host: &RrKey,
     record_type: RecordType,
-    stands: Option<&[Record]>,
+    glue: Option<&[Record]>,
     has: Features,
     all: &mut Vec<Record>,
 ) -> Result<(), AllocError>
     requires least { host.now.record_type ≡ 0 }
     requires owners { AreOwners origin.now (sets_of sets.now) }
     requires features { AreFeatures (record { origin = origin.now; sets = sets_of sets.now }) has }
-    requires stands { IsGlue source (sets_of sets.now) host.now.name record_type (option_copied stands) }
+    requires glue { some_records (option_copied glue) ≡
+        glue_of source (record { origin = origin.now; sets = sets_of sets.now }) host.now.name record_type }
     ensures { OnOk result (IsGrown
         (Gains source (record { origin = origin.now; sets = sets_of sets.now })
         (answers.now ++ all.old.items) host.now.name record_type) all.old.items all.new.items) }
@@ -284,7 +295,7 @@ fn append_once(
         source,
         host,
         record_type,
-        stands,
+        glue,
         has,
         all,
     )
@@ -307,7 +318,7 @@ fn append_addresses(
         name.now all.old.items all.new.items) }
 {
     let host = RrKey::new(LowerName::new(alloc, name)?, RecordType::new(0));
-    let stand = glue(source, sets, &host);
+    let stored = glue(source, sets, &host);
     append_once(
         alloc,
         origin,
@@ -316,7 +327,7 @@ fn append_addresses(
         answers,
         &host,
         RecordType::A,
-        stand.four,
+        stored.four,
         has,
         all,
     )?;
@@ -328,20 +339,47 @@ fn append_addresses(
         answers,
         &host,
         RecordType::AAAA,
-        stand.six,
+        stored.six,
         has,
         all,
     )
 }
 
-/// Puts copies of the addresses of hosts last that the reply does not have yet.
+/// Puts copies of the addresses of the host that a record names last, if it names one, that the reply does not have
+/// yet.
+fn append_host(
+    alloc: Global,
+    origin: &LowerName,
+    sets: &BTreeMap<RrKey, Rc<RecordSet>>,
+    source: Source,
+    answers: &[Record],
+    q: &Record,
+    has: Features,
+    all: &mut Vec<Record>,
+) -> Result<(), AllocError>
+    requires owners { AreOwners origin.now (sets_of sets.now) }
+    requires features { AreFeatures (record { origin = origin.now; sets = sets_of sets.now }) has }
+    ensures { OnOk result (IsGrown
+        (GainsFor source (record { origin = origin.now; sets = sets_of sets.now })
+        (answers.now ++ all.old.items) q.now.rdata) all.old.items all.new.items) }
+{
+    match host(alloc, q)? {
+        Some(name) => {
+            let source = source_of(source, q);
+            append_addresses(alloc, origin, sets, source, answers, &name, has, all)
+        }
+        None => Ok(()),
+    }
+}
+
+/// Puts copies of the addresses of the hosts that records name last that the reply does not have yet.
 fn append_each(
     alloc: Global,
     origin: &LowerName,
     sets: &BTreeMap<RrKey, Rc<RecordSet>>,
     source: Source,
     answers: &[Record],
-    hosts: &[Name],
+    naming: &[Record],
     has: Features,
     all: &mut Vec<Record>,
 ) -> Result<(), AllocError>
@@ -349,10 +387,10 @@ fn append_each(
     requires features { AreFeatures (record { origin = origin.now; sets = sets_of sets.now }) has }
     ensures { OnOk result (IsGrown
         (AreAdditionals source (record { origin = origin.now; sets = sets_of sets.now })
-        (answers.now ++ all.old.items) hosts.now) all.old.items all.new.items) }
+        (answers.now ++ all.old.items) naming.now) all.old.items all.new.items) }
 {
-    for host in hosts {
-        append_addresses(alloc, origin, sets, source, answers, host, has, all)?;
+    for q in naming {
+        append_host(alloc, origin, sets, source, answers, q, has, all)?;
     }
     Ok(())
 }
@@ -370,19 +408,9 @@ pub(crate) fn additionals(
     requires owners { AreOwners origin.now (sets_of sets.now) }
     requires features { AreFeatures (record { origin = origin.now; sets = sets_of sets.now }) has }
     ensures { IfOk result (λ found. AreAdditionals source (record { origin = origin.now; sets = sets_of sets.now })
-        answers.now (hosts_of naming.now) found.items) }
+        answers.now naming.now found.items) }
 {
-    let hosts = hosts_of(alloc, naming)?;
     let mut all = Vec::new(alloc);
-    append_each(
-        alloc,
-        origin,
-        sets,
-        source,
-        answers,
-        hosts.as_slice(),
-        has,
-        &mut all,
-    )?;
+    append_each(alloc, origin, sets, source, answers, naming, has, &mut all)?;
     Ok(all)
 }

@@ -11,7 +11,7 @@ ghost use Rattle.hickory_zone.specs.Chains.{IsIn};
 ghost use Rattle.hickory_zone.specs.representation.Features.{AreFeatures};
 ghost use Rattle.hickory_zone.specs.Handled.{question};
 ghost use Rattle.hickory_zone.specs.representation.Indexes.{IsIndexOf};
-ghost use Rattle.hickory_zone.specs.Replies.{IsReplied, RepliesTo, denial_soa, is_class, whole, as_zone};
+ghost use Rattle.hickory_zone.specs.Replies.{IsReplied, RepliesTo, denial_soa, in_class, is_class, whole, as_zone};
 ghost use Rattle.hickory_zone.specs.representation.FoundRecords.{outcome_of};
 ghost use Rattle.hickory_zone.specs.Zones.{Answers, AreOwners, IsOwner};
 
@@ -163,6 +163,16 @@ pub(crate) fn is_class(class: DNSClass) -> bool
     class == DNSClass::IN || class == DNSClass::ANY
 }
 
+/// Makes this the reply to a question of this class: no reply to any class is authoritative (RFC 1035 section 6.2).
+#[inline(always)]
+fn put_class(class: DNSClass, reply: &mut WholeReply<'_>)
+    ensures { reply.new ≡ in_class class reply.old }
+{
+    if class == DNSClass::ANY {
+        reply.authoritative = false;
+    }
+}
+
 /// The reply to a question that is not of the zone.
 pub(crate) fn refused<'z>() -> WholeReply<'z>
     ensures { result ≡ whole code_refused false [] [] [] }
@@ -208,30 +218,13 @@ pub(crate) fn answer<'z>(
         soa,
         index,
         reply,
-    )
-}
-
-/// What the zone replies to a question: records where they lie, but for those that are synthesized, followed or put
-/// together. `soa` is its SOA record as it stands in denials, if that was made before.
-pub fn reply<'z>(
-    alloc: Global,
-    zone: &'z InMemoryZoneHandler,
-    query: &LowerQuery,
-    has: Features,
-    soa: Option<&'z [Record]>,
-) -> Result<WholeReply<'z>, AllocError>
-    requires owners { AreOwners zone.now.origin zone.now.sets }
-    requires features { AreFeatures (as_zone zone.now) has }
-    requires soa { IfSome (option_copied soa) (λ rs. rs ≡ denial_soa (as_zone zone.now)) }
-    ensures { IfOk result (RepliesTo (as_zone zone.now) query.now) }
-{
-    let mut reply = refused();
-    answer(alloc, zone, query, has, soa, None, &mut reply)?;
-    Ok(reply)
+    )?;
+    put_class(query.query_class(), reply);
+    Ok(())
 }
 
 /// What a zone replies to a question for a name and a type in class IN.
-pub fn reply_to<'z>(
+pub(crate) fn reply_to<'z>(
     alloc: Global,
     zone: &'z InMemoryZoneHandler,
     name: &LowerName,

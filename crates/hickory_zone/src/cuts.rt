@@ -1,4 +1,4 @@
-//! The topmost cuts of a zone that does not change, in an order that is searched by numbers.
+//! The topmost cuts of a zone as they were when its index was made, in an order that is searched by numbers.
 
 ghost use Rattle.std.specs.Prelude.{◌≡◌, ◌↔◌, IfOk, IfSome, IsTrue, false, true};
 ghost use Rattle.std.specs.List.Sorted.{IsStrictlySortedBy};

@@ -4,13 +4,13 @@ ghost use Rattle.std.specs.Prelude.{◌≡◌, ◌↔◌, ◌⊎◌, [], ℕ, If
 ghost use Rattle.std.specs.Bool.{OnTrue};
 ghost use Rattle.std.specs.Option.{option_copied};
 ghost use Rattle.hickory_base.specs.zone_store.ZoneAnswers.{records_at};
-ghost use Rattle.hickory_base.specs.zone_store.ZoneSets.{has_name, sets_of, shared_sets};
+ghost use Rattle.hickory_base.specs.zone_store.ZoneSets.{AreSetsInOrder, has_name, sets_of, shared_sets};
 ghost use Rattle.hickory_zone.specs.Zones.{AreOwners, Answers, AnswersDirectly, Exists, Sets, answer, any_of, ancestor, at_node, by_wildcard, Zone, of_sets, rrset, wildcard};
 ghost use Rattle.std.specs.Prelude.{IfSome, IsSome, drop, length};
 ghost use Rattle.wire_names.specs.rr.domain.DomainName.{AreLabels, IsWire, wire_form};
 ghost use Rattle.hickory_zone.specs.representation.Features.{AreFeatures, IsOfLength};
 ghost use Rattle.hickory_zone.specs.representation.FoundRecords.{first_or};
-ghost use Rattle.hickory_zone.specs.representation.Indexes.{IsIndexOf};
+ghost use Rattle.hickory_zone.specs.representation.Indexes.{IsIndexOf, IsUnmarked};
 ghost use Rattle.std.specs.List.{Contains};
 ghost use Rattle.hickory_zone.specs.representation.KeysBeside.{AreSetsAmong, Entry, SharedMap, StandsBehind};
 ghost use Rattle.std.specs.Option.{unwrap_or};
@@ -44,6 +44,8 @@ pub(crate) struct Node<'z> {
     pub(crate) behind: Option<&'z RrKey>,
     /// The sets before the name's first key, where an index tells them, and else none.
     pub(crate) before: &'z [SharedSet],
+    /// Whether no update has changed this since.
+    pub(crate) is_current: bool,
 }
 
 /// The key that was found before, or else this one.
@@ -104,10 +106,11 @@ fn node_at<'z>(
         servers,
         behind,
         before: &[],
+        is_current: true,
     }
 }
 
-/// The sets of a name by the index of a zone, in which the name is.
+/// The sets of a name by the index of a zone, in which the name is: as they were when the index was made.
 // speed: served, an address
 #[inline(always)]
 fn node_in<'z>(index: &'z Index, first: &RrKey, record_type: RecordType) -> Node<'z>
@@ -116,9 +119,12 @@ fn node_in<'z>(index: &'z Index, first: &RrKey, record_type: RecordType) -> Node
     ensures wanted { option_copied result.wanted ≡ rrset (shared_sets index.now.entries) first.now.name record_type }
     ensures alias { option_copied result.alias ≡ rrset (shared_sets index.now.entries) first.now.name type_cname }
     ensures servers { option_copied result.servers ≡ rrset (shared_sets index.now.entries) first.now.name type_ns }
-    ensures behind { (sets : SharedMap) → sets_of sets ≡ shared_sets index.now.entries →
-        StandsBehind sets first.now (option_copied result.behind) }
-    ensures before { (e : Entry) → Contains result.before.now e → Contains index.now.entries e }
+    ensures behind { (origin : DomainName) (sets : SharedMap) → IsIndexOf origin (sets_of sets) index.now →
+        AreSetsInOrder (sets_of sets) → result.is_current ≡ true
+        → StandsBehind sets first.now (option_copied result.behind) }
+    ensures before { (e : Entry) → Contains result.before.now e →
+        (index.now.is_whole ≡ true) × Contains index.now.entries e }
+    ensures current { result.is_current ≡ true → IsUnmarked index.now first.now }
 {
     let mut wanted = None;
     let mut alias = None;
@@ -141,6 +147,7 @@ fn node_in<'z>(index: &'z Index, first: &RrKey, record_type: RecordType) -> Node
         servers,
         behind,
         before: sides.before,
+        is_current: sides.is_unmarked,
     }
 }
 
@@ -162,9 +169,53 @@ fn node_by<'z>(
     ensures behind { StandsBehind sets.now first.now (option_copied result.behind) }
     ensures before { AreSetsAmong result.before.now (sets_of sets.now) }
 {
-    match index {
-        Some(index) => node_in(index, first, record_type),
-        None => node_at(sets, first, record_type),
+    if let Some(index) = index {
+        // That keys are in order is known of a map whose length was read.
+        let _ = sets.len();
+        let node = node_in(index, first, record_type);
+        if node.is_current {
+            return node;
+        }
+    }
+    node_at(sets, first, record_type)
+}
+
+/// Whether a name owns what referrals are made of.
+#[derive(Clone, Copy)]
+pub(crate) struct Delegating {
+    /// An RRset of type NS.
+    pub(crate) servers: bool,
+    /// One of type A or AAAA.
+    pub(crate) addresses: bool,
+}
+
+/// Whether the key's name owns what referrals are made of, by the sets of a zone.
+pub(crate) fn delegation_at(sets: &BTreeMap<RrKey, Rc<RecordSet>>, first: &RrKey) -> Delegating
+    requires { first.now.record_type ≡ 0 }
+    ensures servers { result.servers ≡ false → rrset (sets_of sets.now) first.now.name type_ns ≡ None }
+    ensures four { result.addresses ≡ false → rrset (sets_of sets.now) first.now.name type_a ≡ None }
+    ensures six { result.addresses ≡ false → rrset (sets_of sets.now) first.now.name type_aaaa ≡ None }
+{
+    let addresses = addresses_at(sets, first);
+    Delegating {
+        servers: node_at(sets, first, RecordType::NS).servers.is_some(),
+        addresses: addresses.four.is_some() || addresses.six.is_some(),
+    }
+}
+
+/// Whether the key's name, which is in the zone, owns what referrals are made of, by the zone's index.
+pub(crate) fn delegation_in(index: &Index, first: &RrKey) -> Delegating
+    requires least { first.now.record_type ≡ 0 }
+    requires within { Encloses index.now.apex.labels first.now.name.labels }
+    ensures servers { result.servers ≡ false → rrset (shared_sets index.now.entries) first.now.name type_ns ≡ None }
+    ensures four { result.addresses ≡ false → rrset (shared_sets index.now.entries) first.now.name type_a ≡ None }
+    ensures six { result.addresses ≡ false → rrset (shared_sets index.now.entries) first.now.name type_aaaa ≡ None }
+{
+    let four = node_in(index, first, RecordType::A);
+    let six = node_in(index, first, RecordType::AAAA);
+    Delegating {
+        servers: four.servers.is_some(),
+        addresses: four.wanted.is_some() || six.wanted.is_some(),
     }
 }
 
@@ -433,8 +484,15 @@ pub(crate) fn cut_above<'z>(
         IfSome found (HasGlue (record { origin = origin.now; sets = sets_of sets.now }))) }
 {
     match index {
-        Some(index) => Ok(cut_above_in(index, origin, first)),
-        None => {
+        Some(index) if index.has_servers() => {
+            let cut = cut_above_in(index, origin, first);
+            if index.has_addresses() {
+                Ok(cut)
+            } else {
+                Ok(unknown_glue(servers_at(cut)))
+            }
+        }
+        _ => {
             let servers = climb_to_cut(alloc, sets, origin, &first.name, has)?;
             Ok(unknown_glue(servers))
         }

@@ -1,79 +1,87 @@
 //! How the zone's replies are given to the catalog.
 
-ghost use Rattle.std.specs.Prelude.{◌≡◌, ◌⊎◌, Err, IfSome, IsTrue, None};
+ghost use Rattle.std.specs.Prelude.{◌≡◌, ◌⊎◌, Err, IfSome, IsTrue};
 ghost use Rattle.std.specs.Option.{option_copied};
 ghost use Rattle.hickory_base.specs.declared.errors.LookupError.TheVariants.{Memory};
-ghost use Rattle.hickory_base.specs.declared.zone_store.lookup.LookupControlFlow.TheVariants.{Break};
+ghost use Rattle.hickory_base.specs.zone_store.ZoneAnswers.{MemoryZone};
 ghost use Rattle.hickory_zone.specs.representation.Features.{AreFeatures};
-ghost use Rattle.hickory_zone.specs.Handled.{IsGiven, IsLookedUp, StandsFor, TransferAnswered, held_serial, is_by_soa, is_no_older, is_soa, names_zone, records_of};
+ghost use Rattle.hickory_zone.specs.representation.Indexes.{IsIndexOf};
+ghost use Rattle.hickory_zone.specs.representation.PreparedZones.{IsPrepared};
+ghost use Rattle.hickory_zone.specs.Handled.{IsLookedUp, StandsFor, held_serial, is_by_soa, is_no_older, is_soa, names_zone, records_of};
 ghost use Rattle.hickory_zone.specs.Replies.{RepliesTo, as_zone, denial_soa};
 ghost use Rattle.hickory_zone.specs.Zones.{AreOwners, Zone};
 
 use crate::answers::{answer, is_class, refused, reply_to};
 use crate::denials::soa_of;
 use crate::features::Features;
+use crate::index::Index;
+use crate::prepared::Prepared;
 use hickory_base::errors::LookupError;
 use hickory_base::server::Request;
 use hickory_base::zone_store::serials::is_greater;
 use hickory_base::zone_store::{
-    AuthLookup, InMemoryZoneHandler, LookupControlFlow, LookupOptions, RecordList, WholeReply,
-    ZoneHandler, ZoneTransfer,
+    AuthLookup, InMemoryZoneHandler, RecordList, WholeReply, ZoneHandler,
 };
-use hickory_wire::{
-    LowerName, LowerQuery, Protocol, RData, Record, RecordType, ResponseCode, TSigResponseContext,
-};
-use std::alloc::{AllocError, Global};
+use hickory_wire::{LowerName, LowerQuery, Protocol, RData, Record, RecordType, ResponseCode};
+use std::alloc::Global;
 
-/// The whole reply to a question. `soa` is the zone's SOA record as it stands in denials, if that was made before.
+/// The SOA record of denials and the index of what was prepared, if it was.
+#[inline(always)]
+fn parts<'z>(prepared: Option<&'z Prepared>) -> (Option<&'z [Record]>, Option<&'z Index>)
+    ensures soa { (zone : MemoryZone) → IfSome (option_copied prepared.entry) (IsPrepared zone)
+        → IfSome (option_copied result.0) (λ rs. rs ≡ denial_soa (as_zone zone)) }
+    ensures index { (zone : MemoryZone) → IfSome (option_copied prepared.entry) (IsPrepared zone)
+        → IfSome (option_copied result.1) (IsIndexOf zone.origin zone.sets) }
+{
+    match prepared {
+        Some(it) => (Some(it.soa.as_slice()), Some(&it.index)),
+        None => (None, None),
+    }
+}
+
+/// The whole reply to a question. Records that lie in the zone are lent. In a zone that was prepared, one search among
+/// its record sets tells most names apart.
+///
+/// # Errors
+///
+/// Memory was refused.
 #[inline(always)]
 pub fn whole<'z>(
     alloc: Global,
     zone: &'z InMemoryZoneHandler,
     query: &LowerQuery,
     has: Features,
-    soa: Option<&'z [Record]>,
+    prepared: Option<&'z Prepared>,
 ) -> Result<AuthLookup<'z>, LookupError>
     requires owners { AreOwners zone.now.origin zone.now.sets }
     requires features { AreFeatures (as_zone zone.now) has }
-    requires soa { IfSome (option_copied soa) (λ rs. rs ≡ denial_soa (as_zone zone.now)) }
+    requires prepared { IfSome (option_copied prepared) (IsPrepared zone.now) }
     ensures { StandsFor zone.now query.now result ⊎ (result ≡ Err Memory) }
 {
     let mut reply = refused();
-    answer(alloc, zone, query, has, soa, None, &mut reply)?;
+    let (soa, index) = parts(prepared);
+    answer(alloc, zone, query, has, soa, index, &mut reply)?;
     Ok(AuthLookup::Whole(reply))
 }
 
-/// Puts the whole reply to a question, as `whole` has it, in the place of another reply, and returns whether it did:
-/// not where memory was refused. Then nothing is promised of the reply.
+/// Writes the whole reply to a question, as [`whole`] has it, over another reply, and returns whether it did: not if
+/// memory was refused. Then nothing is promised of the reply.
 #[inline(always)]
 pub fn put_whole<'z>(
     alloc: Global,
     zone: &'z InMemoryZoneHandler,
     query: &LowerQuery,
     has: Features,
-    soa: Option<&'z [Record]>,
+    prepared: Option<&'z Prepared>,
     reply: &mut WholeReply<'z>,
 ) -> bool
     requires owners { AreOwners zone.now.origin zone.now.sets }
     requires features { AreFeatures (as_zone zone.now) has }
-    requires soa { IfSome (option_copied soa) (λ rs. rs ≡ denial_soa (as_zone zone.now)) }
+    requires prepared { IfSome (option_copied prepared) (IsPrepared zone.now) }
     ensures { IsTrue result → RepliesTo (as_zone zone.now) query.now reply.new }
 {
-    answer(alloc, zone, query, has, soa, None, reply).is_ok()
-}
-
-/// What is answered where there is not just one question, for which no room is made elsewhere.
-#[inline(never)]
-pub(crate) fn unasked<'z>(
-    e: LookupError,
-) -> (
-    LookupControlFlow<AuthLookup<'z>>,
-    Option<TSigResponseContext>,
-)
-    ensures answer { result.0 ≡ Break (Err e) }
-    ensures context { result.1 ≡ None }
-{
-    (LookupControlFlow::Break(Err(e)), None)
+    let (soa, index) = parts(prepared);
+    answer(alloc, zone, query, has, soa, index, reply).is_ok()
 }
 
 /// Whether the SOA of the zone of this origin is looked up.
@@ -110,19 +118,24 @@ fn records_of<'z>(reply: WholeReply<'z>) -> Result<AuthLookup<'z>, LookupError>
 }
 
 /// The records by which the catalog completes a reply.
+///
+/// # Errors
+///
+/// The code of the zone's reply to a question for this name and type, if it is not NOERROR; or memory was refused.
 pub fn records<'z>(
     alloc: Global,
     zone: &'z InMemoryZoneHandler,
     name: &LowerName,
     record_type: RecordType,
     has: Features,
-    soa: Option<&'z [Record]>,
+    prepared: Option<&'z Prepared>,
 ) -> Result<AuthLookup<'z>, LookupError>
     requires owners { AreOwners zone.now.origin zone.now.sets }
     requires features { AreFeatures (as_zone zone.now) has }
-    requires soa { IfSome (option_copied soa) (λ rs. rs ≡ denial_soa (as_zone zone.now)) }
+    requires prepared { IfSome (option_copied prepared) (IsPrepared zone.now) }
     ensures { IsLookedUp (as_zone zone.now) name.now record_type result ⊎ (result ≡ Err Memory) }
 {
+    let (soa, _) = parts(prepared);
     if is_soa(zone.origin(), name, record_type) {
         return Ok(AuthLookup::Records {
             answers: soa_of(alloc, zone.origin(), zone.records(), soa)?,
@@ -133,7 +146,7 @@ pub fn records<'z>(
 }
 
 /// The serial of the version of a zone that the client of an IXFR has, by the authority section (RFC 1995 section 3).
-fn held_serial(authorities: &[Record]) -> Option<u32>
+pub fn held_serial(authorities: &[Record]) -> Option<u32>
     ensures { result ≡ held_serial authorities.now }
 {
     match authorities {
@@ -158,7 +171,7 @@ fn is_no_older(held: Option<u32>, own: u32) -> bool
     }
 }
 
-/// Whether a transfer of the zone that is asked for so is answered by its SOA record alone: a query for what changed
+/// Whether a transfer of the zone that is asked for so is answered only by its SOA record: a query for what changed
 /// (IXFR) over UDP, or of a client whose version is no older than the zone's (RFC 1995 section 2).
 pub fn is_by_soa(zone: &InMemoryZoneHandler, request: &Request, query: &LowerQuery) -> bool
     ensures { result ≡ is_by_soa zone.now request.now query.now }
@@ -172,54 +185,5 @@ pub fn is_by_soa(zone: &InMemoryZoneHandler, request: &Request, query: &LowerQue
             held_serial(request.message().authorities.as_slice()),
             zone.serial(),
         ),
-    }
-}
-
-/// What is given for a transfer of the zone: its SOA record alone where that is enough.
-fn given(
-    alloc: Global,
-    zone: &InMemoryZoneHandler,
-    request: &Request,
-    query: &LowerQuery,
-    options: LookupOptions,
-    now: u64,
-) -> Option<
-    (
-        Result<ZoneTransfer, LookupError>,
-        Option<TSigResponseContext>,
-    ),
->
-    ensures { IsGiven zone.now request.now query.now result }
-{
-    if is_by_soa(zone, request, query) {
-        Some((zone.soa_transfer(alloc), None))
-    } else {
-        zone.zone_transfer(alloc, request, options, now)
-    }
-}
-
-/// The transfer of the zone, if the request names it.
-pub(crate) fn transfer(
-    alloc: Global,
-    zone: &InMemoryZoneHandler,
-    request: &Request,
-    options: LookupOptions,
-    now: u64,
-) -> Option<
-    (
-        Result<ZoneTransfer, LookupError>,
-        Option<TSigResponseContext>,
-    ),
->
-    ensures { TransferAnswered zone.now request.now result }
-{
-    let query = match request.request_info() {
-        Ok(info) => info.query,
-        Err(e) => return Some((Err(e), None)),
-    };
-    if names_zone(zone.origin(), query) {
-        given(alloc, zone, request, query, options, now)
-    } else {
-        Some((Err(LookupError::ResponseCode(ResponseCode::NOT_AUTH)), None))
     }
 }

@@ -1,7 +1,7 @@
-//! The sets of a zone that does not change, in an order that is searched by numbers.
+//! The sets of a zone in an order that is searched by numbers, and what updates have changed since.
 
-ghost use Rattle.std.specs.Prelude.{◌≡◌, ◌<◌, ◌≤◌, ◌++◌, IfOk, IfSome, Some, drop, length, true};
-ghost use Rattle.std.specs.List.{slice_get};
+ghost use Rattle.std.specs.Prelude.{◌≡◌, ◌<◌, ◌≤◌, ◌∷◌, IfOk, IfSome, IsTrue, Some, drop, false, length, true};
+ghost use Rattle.std.specs.List.{Contains, slice_get};
 ghost use Rattle.std.specs.List.Sorted.{IsStrictlySortedBy};
 ghost use Rattle.std.specs.Map.{keys_of};
 ghost use Rattle.std.specs.Ordering.{is_lt};
@@ -13,25 +13,32 @@ ghost use Rattle.wire_messages.specs.rr.RrKeys.{key_cmp};
 ghost use Rattle.hickory_base.specs.zone_store.ZoneSets.{AreSetsInOrder, sets_of, shared_sets};
 ghost use Rattle.hickory_zone.specs.representation.Features.{AreFeatures};
 ghost use Rattle.hickory_zone.specs.representation.FoundRecords.{CutAbove};
-ghost use Rattle.hickory_zone.specs.representation.Indexes.{AreWordsOf, IsIndexOf, IsPlaceOf, IsSearched, IsWordOf};
+ghost use Rattle.hickory_zone.specs.representation.Indexes.{AreWordsOf, IsIndexBut, IsIndexOf, IsPlaceOf, IsSearched, IsUnmarked, IsWordOf, KeepsOthers, Marks};
 ghost use Rattle.hickory_zone.specs.representation.KeysBeside.{Entry};
 ghost use Rattle.hickory_zone.specs.representation.TopCuts.{HasGlue, servers_at};
-ghost use Rattle.hickory_zone.specs.Zones.{AreOwners};
+ghost use Rattle.hickory_zone.specs.Zones.{AreOwners, Records, Sets};
 
 use crate::cuts::{Cut, Cuts};
 use crate::features::Features;
+use crate::find::{delegation_at, delegation_in};
 use hickory_base::zone_store::RecordSet;
-use hickory_wire::{LowerName, Record, RrKey};
+use hickory_wire::{LowerName, Record, RecordType, RrKey};
 use std::alloc::{AllocError, Global};
 use std::collections::BTreeMap;
 use std::marker::Model;
 use std::rc::Rc;
 
+/// How many names may have marks however few the sets are.
+const MOST_CHANGES: usize = 64;
+
+/// For how many sets one more may.
+const MOST_CHANGES_SHARE: usize = 16;
+
 /// A set and its key.
 pub(crate) type SharedSet = (RrKey, Rc<RecordSet>);
 
-/// The sets of a zone in the order of their keys, and beside each the number of its name below the apex, which stands
-/// in this order too; and its topmost cuts.
+/// The sets of a zone in the order of their keys as they were when the index was made, and beside each the number of
+/// its name below the apex, which stands in this order too; its topmost cuts; and what updates have changed since.
 // speed: served, an address
 #[derive(Drop)]
 pub(crate) struct Index {
@@ -41,30 +48,50 @@ pub(crate) struct Index {
     cuts: Cuts,
     // The addresses of the servers at each cut, as a referral has them.
     glue: Vec<Vec<Record>>,
+    // Whether a name may have changed, by the place of its first key: among the entries, or where it would be.
+    marks: Vec<bool>,
+    // How many names were marked.
+    changes: usize,
+    // Whether the zone still has the entries, and no others.
+    is_whole: bool,
+    // Whether each name still has the NS records that it has among the entries, or none.
+    has_servers: bool,
+    // Whether each name still has the addresses that it has among the entries, or none.
+    has_addresses: bool,
 }
 
 impl Model for Index {
+    ghost use Rattle.std.specs.Prelude.{◌≡◌, ◌+◌, length};
     ghost use Rattle.hickory_base.specs.zone_store.ZoneSets.{shared_sets};
     ghost use Rattle.hickory_zone.specs.representation.Indexes.{IndexedSets, IsSearched};
     ghost use Rattle.hickory_zone.specs.representation.TopCuts.{AreCutsOf, AreGlueOf};
 
     ghost Value = { IndexedSets };
 
-    ghost view = { λ index. record { apex = index.apex; entries = index.entries.items } };
+    ghost view = { λ index. record {
+      apex = index.apex;
+      entries = index.entries.items;
+      marks = index.marks.items;
+      is_whole = index.is_whole;
+      has_servers = index.has_servers;
+      has_addresses = index.has_addresses;
+    } };
 
     ghost invariant = { λ index. IsSearched index.apex index.entries.items index.words.items
         × AreCutsOf (record { origin = index.apex; sets = shared_sets index.entries.items }) index.cuts
         × AreGlueOf (record { origin = index.apex; sets = shared_sets index.entries.items }) index.cuts.entries.items
-        index.glue.items };
+        index.glue.items × (length index.marks.items ≡ length index.entries.items + 1) };
 }
 
 /// The sets of an index on both sides of a key.
 #[derive(Clone, Copy)]
 pub(crate) struct Sides<'z> {
-    /// The sets before the key.
+    /// The sets before the key, as long as no update has changed the zone, and else none.
     pub(crate) before: &'z [SharedSet],
     /// The sets from the key on.
     pub(crate) from: &'z [SharedSet],
+    /// Whether the key's place has no mark.
+    pub(crate) is_unmarked: bool,
 }
 
 /// The number of a key's name, which is at the apex or below it.
@@ -123,6 +150,14 @@ pub(crate) fn place_of(
     low
 }
 
+/// Whether names have what they had of a kind of records, where one more may have changed: it had none of the kind
+/// before, and has none after.
+fn is_still(so_far: bool, before: bool, after: bool) -> bool
+    ensures { IsTrue result → (so_far ≡ true) × (before ≡ false) × (after ≡ false) }
+{
+    so_far && !before && !after
+}
+
 impl Index {
     /// The index of the sets of the zone of this origin.
     pub(crate) fn new(
@@ -138,10 +173,13 @@ impl Index {
     {
         let mut words = Vec::with_capacity(alloc, sets.len())?;
         let mut entries = Vec::with_capacity(alloc, sets.len())?;
+        let mut marks = Vec::with_capacity(alloc, sets.len())?;
         for (key, set) in sets {
             words.push(word_of(origin, key))?;
             entries.push((key.clone()?, set.clone()?))?;
+            marks.push(false)?;
         }
+        marks.push(false)?;
         let cuts = Cuts::new(alloc, origin, entries.as_slice())?;
         let glue = cuts.glue(alloc, origin, sets, has)?;
         Ok(Index {
@@ -150,22 +188,57 @@ impl Index {
             entries,
             cuts,
             glue,
+            marks,
+            changes: 0,
+            is_whole: true,
+            has_servers: true,
+            has_addresses: true,
         })
+    }
+
+    /// Whether the zone still has the NS records that the index has, and no others.
+    #[inline(always)]
+    pub(crate) fn has_servers(&self) -> bool
+        ensures { result ≡ self.now.has_servers }
+    {
+        self.has_servers
+    }
+
+    /// Whether the zone still has the addresses that the index has, and no others.
+    #[inline(always)]
+    pub(crate) fn has_addresses(&self) -> bool
+        ensures { result ≡ self.now.has_addresses }
+    {
+        self.has_addresses
+    }
+
+    /// Whether so many names were marked that the index should be made again: more than 64 and than a sixteenth of the
+    /// sets.
+    pub(crate) fn is_worn(&self) -> bool {
+        self.changes > MOST_CHANGES && self.changes > self.entries.len() / MOST_CHANGES_SHARE
     }
 
     /// The sets on both sides of a key, whose name is at the apex or below it.
     #[inline(always)]
     pub(crate) fn beside_key(&self, first: &RrKey) -> Sides<'_>
         requires { Encloses self.now.apex.labels first.now.name.labels }
-        ensures whole { result.before.now ++ result.from.now ≡ self.now.entries }
+        ensures before { (e : Entry) → Contains result.before.now e →
+            (self.now.is_whole ≡ true) × Contains self.now.entries e }
+        ensures unmarked { result.is_unmarked ≡ true → IsUnmarked self.now first.now }
         ensures is { result.from.now ≡ entries_between key_cmp (Included first.now) Unbounded self.now.entries }
         ensures ordered { IsStrictlySortedBy key_cmp (keys_of self.now.entries) }
     {
         let entries = self.entries.as_slice();
         let place = place_of(&self.apex, entries, self.words.as_slice(), first);
+        let marks = self.marks.as_slice();
         Sides {
-            before: &entries[..place],
+            before: if self.is_whole {
+                &entries[..place]
+            } else {
+                &[]
+            },
             from: &entries[place..],
+            is_unmarked: !marks[place],
         }
     }
 
@@ -192,5 +265,69 @@ impl Index {
             servers: top.servers,
             glue,
         })
+    }
+    /// Marks the place of a key, whose name is at the apex or below it.
+    fn mark(&mut self, first: &RrKey)
+        requires within { Encloses self.old.apex.labels first.now.name.labels }
+        ensures { Marks first.now self.old self.new }
+    {
+        let entries = self.entries.as_slice();
+        let place = place_of(&self.apex, entries, self.words.as_slice(), first);
+        self.marks[place] = true;
+        self.is_whole = false;
+        self.changes = self.changes.saturating_add(1);
+    }
+
+    /// Marks the owner name of a record of an update that has left the zone these sets. Returns whether it did: not if
+    /// memory was refused, or the name is outside of the zone.
+    fn mark_owner(
+        &mut self,
+        alloc: Global,
+        sets: &BTreeMap<RrKey, Rc<RecordSet>>,
+        r: &Record,
+    ) -> bool
+        ensures { IsTrue result → (origin : DomainName) (rest : Records) →
+            IsIndexBut (r.now ∷ rest) origin (sets_of sets.now) self.old →
+            IsIndexBut rest origin (sets_of sets.now) self.new }
+    {
+        let Ok(name) = LowerName::new(alloc, &r.name) else {
+            return false;
+        };
+        if !self.apex.zone_of(&name) {
+            return false;
+        }
+        let first = RrKey::new(name, RecordType::new(0));
+        let before = delegation_in(self, &first);
+        let after = delegation_at(sets, &first);
+        self.has_servers = is_still(self.has_servers, before.servers, after.servers);
+        self.has_addresses = is_still(self.has_addresses, before.addresses, after.addresses);
+        self.mark(&first);
+        true
+    }
+
+    /// The index of the zone that an update with these records has left with these sets, by the index before it: that
+    /// one, with marks at the names that may have changed. It takes time by the records. There is none if memory was
+    /// refused, or a name is outside of the zone.
+    pub(crate) fn after(
+        self,
+        alloc: Global,
+        sets: &BTreeMap<RrKey, Rc<RecordSet>>,
+        updates: &[Record],
+    ) -> Option<Index>
+        ensures { (origin : DomainName) (old : Sets) → IsIndexOf origin old self →
+            KeepsOthers updates.now origin old (sets_of sets.now)
+            → IfSome result (IsIndexOf origin (sets_of sets.now)) }
+    {
+        let mut index = self;
+        let Ok(apex) = index.apex.clone() else {
+            return None;
+        };
+        index.mark(&RrKey::new(apex, RecordType::new(0)));
+        for r in updates {
+            if !index.mark_owner(alloc, sets, r) {
+                return None;
+            }
+        }
+        Some(index)
     }
 }

@@ -12,7 +12,7 @@ ghost use Rattle.hickory_zone.specs.Additionals.{host_in};
 ghost use Rattle.hickory_zone.specs.WorkedZones.{address, any_name, away, child, cuts, deep, example, first_alias, foo_bar, ghost_any, grandchild, host1, host3, host_subdel, into_child, itself_alias, mail, nobody, ns_child, owned, ping, pong, second_alias, server, service, sub_any, subdel, tcp_host1, telnet_host1, text, to_child, to_nobody, to_text, wildcards};
 ghost use Rattle.hickory_zone.specs.Handled.{question};
 ghost use Rattle.hickory_zone.specs.Replies.{RepliesTo, whole};
-ghost use Rattle.hickory_zone.specs.WorkedReplies.{chaos, denying_soa, loud_host3, loud_new, loud_old};
+ghost use Rattle.hickory_zone.specs.WorkedReplies.{chaos, denying_soa, loud_host3, loud_new, loud_old, net, of_any_class, priming, root_mail, root_server, root_service};
 ghost use Rattle.hickory_zone.specs.Redirections.{is_too_long, substitute, target_in};
 ghost use Rattle.hickory_zone.specs.WorkedRedirections.{Makes, MakesNothing, a_self, back_new, back_old, below_long, cut_old, far, home_sub, long, low, made, moved, new_home, nobody_new, nobody_old, old_home, redirecting, redirecting_apex, self, sub, to_far, to_new_home, to_self, www_low, www_new, www_old, www_sub};
 ghost use Rattle.hickory_zone.specs.Zones.{Answers, answer, no_data, no_name, redirection, referral, wild_answer};
@@ -159,7 +159,7 @@ pub fn worked_redirected_chains()
 
 /// Whole replies: of a referral the servers and their glue, and AA behind an alias alone; of a denial the code of the
 /// chain's last name and the SOA, to be kept as long as its MINIMUM says; to a question that is not of the zone neither
-/// AA nor records.
+/// AA nor records; to a question of any class no AA.
 pub fn worked_replies()
     ensures answer_with_address { RepliesTo wildcards (question host3 type_mx)
         (whole code_no_error true (owned host3 mail ∷ []) [] (owned host1 (address 1) ∷ [])) }
@@ -180,4 +180,16 @@ pub fn worked_replies()
         (whole code_yx_domain true (owned long to_far ∷ []) [] []) }
     ensures outside { RepliesTo cuts (question server type_a) (whole code_refused false [] [] []) }
     ensures other_class { RepliesTo cuts chaos (whole code_refused false [] [] []) }
+    ensures any_class { RepliesTo cuts of_any_class (whole code_no_error false [] (denying_soa ∷ []) []) }
+{}
+
+/// The glue that is added to an answer: the addresses of servers, as a priming query needs them (RFC 9609 section 4.1),
+/// of a mail host at a cut, and of the host of a service.
+pub fn worked_glue()
+    ensures servers { RepliesTo priming (question root type_ns)
+        (whole code_no_error true (owned root (rdata.NS root_server) ∷ []) [] (owned root_server (address 4) ∷ [])) }
+    ensures mail_host { RepliesTo priming (question root type_mx)
+        (whole code_no_error true (owned root root_mail ∷ []) [] (owned net (address 5) ∷ [])) }
+    ensures service { RepliesTo priming (question root type_srv)
+        (whole code_no_error true (owned root root_service ∷ []) [] (owned net (address 5) ∷ [])) }
 {}

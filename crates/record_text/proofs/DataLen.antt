@@ -13,7 +13,7 @@ use Rattle.wire_messages.specs.serialize.writing.RecordSize.{data_len, full_size
 use Rattle.record_text.specs.RecordText.{HasNone, IsData}
 use Rattle.record_text.proofs.OneLength.{Base64Once, data_length}
 use Rattle.record_text.proofs.TypesOnce.{types_once}
-use Rattle.service_text.specs.ServiceText.{ParametersOnce}
+use Rattle.text_data.specs.ServiceText.{ParametersOnce}
 use Rattle.text_words.specs.declared.words.Word.{Word}
 use Rattle.text_words.specs.Spelling.{BytesSpelledOnce, NamesSpelledOnce, StringsSpelledOnce}
 

@@ -9,8 +9,8 @@ use Rattle.record_text.specs.declared.data.field.Field.{Field}
 use Rattle.record_text.specs.declared.data.field.Field.TheVariants as field
 use Rattle.record_text.specs.declared.data.field.Rest.{Rest}
 use Rattle.record_text.specs.declared.data.field.Rest.TheVariants as kind
-use Rattle.location_text.specs.LocationText.{IsLocation}
-use Rattle.service_text.specs.ServiceText.{AreServiceParameters}
+use Rattle.text_data.specs.LocationText.{IsLocation}
+use Rattle.text_data.specs.ServiceText.{AreServiceParameters}
 use Rattle.text_words.specs.declared.words.Word.{Word}
 use Rattle.text_words.specs.Spelling.{IsString}
 use Rattle.record_text.specs.RecordText.{AreFields, AreFieldsBefore, AreLowTypes, AreNames, ArePlain, ArePortBits, ArePorts, AreStrings, AreTypes, HasNone, IsBase64, IsData, IsField, IsGateway, IsLowTypeSet, IsRest, IsRow, IsTypeSet, SpellsLowType, SpellsPort, SpellsType, bytes_of}

@@ -42,8 +42,8 @@ use Rattle.record_text.proofs.Digits.{base32_len}
 use Rattle.record_text.proofs.Relays.{relay_told}
 use Rattle.record_text.proofs.Gateways.{before_key, behind_fields, told_of}
 use Rattle.record_text.proofs.NoRow.{fields_len}
-use Rattle.location_text.proofs.SameLocation.{location_len}
-use Rattle.service_text.specs.ServiceText.{ParametersOnce}
+use Rattle.text_data.proofs.SameLocation.{location_len}
+use Rattle.text_data.specs.ServiceText.{ParametersOnce}
 use Rattle.text_words.specs.declared.words.Word.{Word}
 use Rattle.text_words.specs.Spelling.{BytesSpelledOnce, IsString, NamesSpelledOnce, StringsSpelledOnce}
 

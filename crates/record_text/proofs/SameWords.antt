@@ -28,8 +28,8 @@ use Rattle.record_text.specs.RecordText.SpellsData.{in_form, generic}
 use Rattle.record_text.specs.Prefixes.{ArePrefixes, SpellsPrefix}
 use Rattle.record_text.specs.Prefixes.ArePrefixes.{none as no_prefixes, more as one_prefix}
 use Rattle.record_text.specs.TypeTable.{TypeRow}
-use Rattle.location_text.proofs.SameLocation.{same_location}
-use Rattle.service_text.specs.ServiceText.{ParametersOfWords}
+use Rattle.text_data.proofs.SameLocation.{same_location}
+use Rattle.text_data.specs.ServiceText.{ParametersOfWords}
 use Rattle.text_words.specs.declared.words.Word.{Word}
 use Rattle.text_words.specs.Spelling.{IsNumber, IsString, Spells, SpellsName, SpellsTime, any_byte}
 use Rattle.text_words.specs.Words.{AreSameWords, SameWord}

@@ -27,8 +27,8 @@ use Rattle.record_text.specs.Mnemonics.{NamedNumber, mnemonics}
 use Rattle.record_text.specs.declared.data.field.Rest.{Rest}
 use Rattle.record_text.specs.declared.data.field.Rest.TheVariants as rest
 use Rattle.record_text.specs.declared.data.field.Row.{Row}
-use Rattle.location_text.specs.LocationText.{IsLocation}
-use Rattle.service_text.specs.ServiceText.{AreServiceParameters}
+use Rattle.text_data.specs.LocationText.{IsLocation}
+use Rattle.text_data.specs.ServiceText.{AreServiceParameters}
 use Rattle.text_words.specs.declared.words.Word.{Word}
 use Rattle.record_text.specs.Moments.{SpellsMoment}
 use Rattle.record_text.specs.declared.data.hex_groups.Group.TheVariants as group

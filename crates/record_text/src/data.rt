@@ -31,8 +31,8 @@ use crate::data::forms::data_in_form;
 use crate::generic::read_generic;
 use hickory_wire::record_laws::full_forms;
 use hickory_wire::{DNSClass, Name, Proof, RData, Record, RecordType};
-use service_text::service_laws::parameters_once;
 use std::alloc::Global;
+use text_data::service_laws::parameters_once;
 use text_words::word_laws::{words_spell_once, words_stand_once};
 use text_words::{TextError, TextFault, Word, Words, fault_at};
 

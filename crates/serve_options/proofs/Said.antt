@@ -6,8 +6,8 @@ use Rattle.std.specs.Prelude.{Contains, codes, is_some, nat_eq, option_map}
 use Rattle.std.specs.Cmp.Lexicographic.{pointwise}
 use Rattle.std.specs.List.{AllByRecursion, AllZip, filter}
 use Rattle.std.specs.Option.{option_to_list}
-use Rattle.access_control.specs.Access.{Network}
-use Rattle.access_control.specs.NetworkTexts.{IsNetworkText}
+use Rattle.server_limits.specs.Access.{Network}
+use Rattle.server_limits.specs.NetworkTexts.{IsNetworkText}
 use Rattle.serve_options.specs.Arguments.{IsBound, IsUpdateText, IsZoneText, Options, OptionsSay, behind, bounds_of, files_of, identifiers_of, key_files_of, no_groups_of, option_names, stands_alone, transfer_keys_of, words_of}
 use Rattle.serve_options.specs.declared.arguments.Settings.{Settings}
 use Rattle.serve_options.specs.declared.arguments.UpdateArgument.{UpdateArgument}

@@ -4,7 +4,7 @@ use Rattle.std.specs.Cmp.Lexicographic.{pointwise}
 use Rattle.std.specs.List.{AllByRecursion, AllZip, after_first, before_first, filter, flat_map, position_or_len}
 use Rattle.std.specs.Option.{option_to_list}
 use Rattle.std.specs.Str.Parse.{IsNumeral, digits_value, without_leading_plus}
-use Rattle.access_control.specs.NetworkTexts.{IsNetworkText}
+use Rattle.server_limits.specs.NetworkTexts.{IsNetworkText}
 use Rattle.serve_options.specs.declared.arguments.Mode.{Mode}
 use Rattle.serve_options.specs.declared.arguments.Mode.TheVariants.{Lines, Tcp, Udp}
 use Rattle.serve_options.specs.declared.arguments.Settings.{Settings}

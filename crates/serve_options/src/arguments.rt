@@ -1,10 +1,10 @@
 //! What the program is started with.
 
 ghost use Rattle.std.specs.Prelude.{◌≡◌, [], codes, IfOk, IfSome, IsNone, OnOk, map, string_bytes};
-ghost use Rattle.access_control.specs.NetworkTexts.{IsNetworkText};
+ghost use Rattle.server_limits.specs.NetworkTexts.{IsNetworkText};
 ghost use Rattle.serve_options.specs.Arguments.{ArgumentsSay, IsBound, IsOfOneProcess, IsUpdateText, IsZoneText, OptionsSay, Takes, mode_word};
 
-use access_control::{IpNet, IpNetTextError};
+use server_limits::access_control::{IpNet, IpNetTextError};
 use std::alloc::{AllocError, AllocFailed, Global};
 use thiserror::Error;
 

@@ -1,34 +1,33 @@
 //! Keys from the bytes of their file.
 
-ghost use Rattle.std.specs.Prelude.{◌≢◌, [], All, IfOk};
-ghost use Rattle.tsig.specs.KeyTexts.{IsUsable};
+ghost use Rattle.std.specs.Prelude.{IfOk};
+ghost use Rattle.served_keys.specs.ServedKeys.{AreKeysOfFile};
 
 use std::alloc::Global;
 use std::str;
 use thiserror::Error;
 use tsig::{KeyTextError, Keys, read_keys};
 
-/// Why a file of keys is not taken. No part of the file is told: it may be secret.
+/// Why a file of keys is not taken. It has no part of the file, which may be secret.
 #[derive(Clone, Copy, Debug, PartialEq, Eq, Error)]
 pub enum KeysFault {
-    /// It is no text.
+    /// It is not UTF-8.
     #[error("the file is not UTF-8")]
     NotUtf8,
     /// It is not a file of keys.
     #[error("{0}")]
     Text(KeyTextError),
-    /// It has no key: it is empty, or has comments alone.
+    /// It has no key: it is empty, or has only comments.
     #[error("the file has no key")]
     NoKeys,
-    /// Memory was refused.
+    /// An allocation failed.
     #[error("no memory")]
     Memory,
 }
 
-/// The keys of a text, of which there is one at least.
+/// The keys of a text, at least one.
 fn some_keys(alloc: Global, text: &str) -> Result<Keys, KeysFault>
-    ensures usable { IfOk result (λ keys. All IsUsable keys) }
-    ensures some { IfOk result (λ keys. keys ≢ []) }
+    ensures { IfOk result (AreKeysOfFile text.now) }
 {
     match read_keys(alloc, text) {
         Ok(keys) => {
@@ -43,12 +42,10 @@ fn some_keys(alloc: Global, text: &str) -> Result<Keys, KeysFault>
     }
 }
 
-/// The keys that the bytes of a file have, of which there is one at least. Each has a secret, and names that differ,
-/// letter case aside. The forms of the text are those of [`read_keys`]: BIND's `key` statements, Knot's `key` section,
-/// and lines as `dig -y` takes them.
+/// The keys that the bytes of a file have, at least one. The forms of the text are those of [`read_keys`]: BIND's `key`
+/// statements, Knot's `key` section, and lines as `dig -y` takes them.
 pub fn keys_of_file(alloc: Global, bytes: &[u8]) -> Result<Keys, KeysFault>
-    ensures usable { IfOk result (λ keys. All IsUsable keys) }
-    ensures some { IfOk result (λ keys. keys ≢ []) }
+    ensures { IfOk result (AreKeysOfFile bytes.now) }
 {
     match str::from_utf8(bytes) {
         Ok(text) => some_keys(alloc, text),

@@ -1,8 +1,7 @@
 //! Keys by the names that an operator writes.
 
-ghost use Rattle.std.specs.Prelude.{IfOk, IsTrue, is_some};
-ghost use Rattle.tsig.specs.Keys.{key_of};
-ghost use Rattle.served_keys.specs.ServedKeys.{IsKeyName};
+ghost use Rattle.std.specs.Prelude.{IfOk};
+ghost use Rattle.served_keys.specs.ServedKeys.{IsKeyName, IsKeyNamed};
 
 use std::alloc::Global;
 use thiserror::Error;
@@ -10,16 +9,16 @@ use tsig::Keys;
 use wire_names::error::NameError;
 use wire_names::rr::domain::name::Name;
 
-/// Why a text names no key.
+/// Why a text is not the name of a key.
 #[derive(Clone, Copy, Debug, PartialEq, Eq, Error)]
 pub enum KeyNameFault {
-    /// It is no name.
+    /// It is not a name.
     #[error("not the name of a key")]
     Text,
     /// There is no key of this name.
     #[error("there is no key of this name")]
     Unknown,
-    /// Memory was refused.
+    /// An allocation failed.
     #[error("no memory")]
     Memory,
 }
@@ -40,8 +39,7 @@ fn name(alloc: Global, text: &str) -> Result<Name, KeyNameFault>
 
 /// The name of a key that there is, as a text spells it, with or without a dot at its end.
 pub fn key_named(alloc: Global, keys: &Keys, text: &str) -> Result<Name, KeyNameFault>
-    ensures spelled { IfOk result (IsKeyName text.now) }
-    ensures known { IfOk result (λ name. IsTrue (is_some (key_of keys.now name))) }
+    ensures { IfOk result (IsKeyNamed keys.now text.now) }
 {
     let name = name(alloc, text)?;
     if keys.find(&name).is_none() {

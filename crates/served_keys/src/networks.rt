@@ -1,10 +1,10 @@
 //! The networks that may have transfers where keys may.
 
 ghost use Rattle.std.specs.Prelude.{◌≡◌, ◌++◌, IfOk};
-ghost use Rattle.access_control.specs.declared.Family.TheVariants.{Ipv4, Ipv6};
+ghost use Rattle.server_limits.specs.declared.access_control.Family.TheVariants.{Ipv4, Ipv6};
 ghost use Rattle.served_keys.specs.ServedKeys.{all_networks, network_of_all};
 
-use access_control::IpNet;
+use server_limits::access_control::IpNet;
 use std::alloc::{AllocError, Global};
 use std::net::{IpAddr, Ipv4Addr, Ipv6Addr};
 

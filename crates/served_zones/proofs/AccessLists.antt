@@ -1,6 +1,6 @@
 -- What an access list has that was made of networks.
 use Rattle.std.proofs.Common.{◌⊎◌, inl, inr, List, Contains}
-use Rattle.access_control.specs.Access.{Inserts, Network, SameNetworks}
+use Rattle.server_limits.specs.Access.{Inserts, Network, SameNetworks}
 
 -- Networks that were inserted where there were none are all that there are.
 pub inserted_alone : (old given new : List Network) → ((network : Network) → ¬ (Contains old network)) → Inserts old given new → SameNetworks given new

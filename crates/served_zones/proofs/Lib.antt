@@ -1,2 +1,4 @@
 mod AccessLists
-mod Loops
+mod Rules
+mod RuledZones
+mod Turns

@@ -1,1 +1,9 @@
+pub mod Given
+pub mod Grants
+pub mod Holding
+pub mod JournalFaults
+pub mod Journals
+pub mod Operations
 pub mod ServedZones
+pub mod ZoneChanges
+pub mod ZoneReplies

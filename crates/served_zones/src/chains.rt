@@ -8,14 +8,18 @@ ghost use Rattle.hickory_catalog.specs.zones.Zones.{ChangesAt};
 ghost use Rattle.served_zones.specs.ServedZones.{Chain, IsApexText, IsChain};
 
 use crate::handler::{Handler, Zones};
+use either::Either;
 use hickory_server::proto::{LowerName, Name, NameError};
-use hickory_server::store::blocklist::BlocklistZoneHandler;
-use hickory_server::zone_store::Either;
+use hickory_store::blocklist::BlocklistZoneHandler;
+use sqlite_disk::Disk;
 use std::alloc::{AllocError, Global};
 use std::rc::Rc;
 
-/// The name of the apex of a zone, with or without a dot at its end; the root is a dot alone. `NameError::Text` says
-/// that the text is no name.
+/// The name of the apex of a zone, with or without a dot at its end; the root is a single dot.
+///
+/// # Errors
+///
+/// `NameError::Text`: the text is not a name. All else: an allocation failed.
 pub fn apex(alloc: Global, text: &str) -> Result<Name, NameError>
     ensures spelled { IfOk result (IsApexText text.now) }
     ensures qualified { IfOk result (λ name. name.is_fqdn ≡ true) }
@@ -29,14 +33,13 @@ pub fn apex(alloc: Global, text: &str) -> Result<Name, NameError>
     Ok(name)
 }
 
-/// The chain of a zone: its handler, and behind it the list of blocked names, if there is one. The list is consulted
-/// about what the zone answers, so that it changes answers alone: transfers and updates are for the handler of the
-/// zone.
-pub fn chain(
+/// The chain of a zone: its handler, and after it the list of blocked names, if there is one. The list is consulted
+/// about what the zone answers, so it changes only answers: transfers and updates are for the handler of the zone.
+pub fn chain<D: Disk + Drop>(
     alloc: Global,
-    zone: Handler,
+    zone: Handler<D>,
     list: Option<&Rc<BlocklistZoneHandler>>,
-) -> Result<Vec<Handler>, AllocError>
+) -> Result<Vec<Handler<D>>, AllocError>
     ensures { IfOk result (λ chain. IsChain zone (option_map (λ it. it.now.value) list.entry) chain.items) }
 {
     let mut chain = Vec::new(alloc);
@@ -47,12 +50,12 @@ pub fn chain(
     Ok(chain)
 }
 
-/// Puts the chain of a zone at its apex; whether there was none. Where memory is refused, the catalog is as before.
-pub fn put_chain(
+/// Puts the chain of a zone at its apex, and returns whether there was none. After an error the catalog is as before.
+pub fn put_chain<D: Disk + Drop>(
     alloc: Global,
-    catalog: &mut Zones,
+    catalog: &mut Zones<D>,
     apex: &Name,
-    chain: Vec<Handler>,
+    chain: Vec<Handler<D>>,
 ) -> Result<bool, AllocError>
     ensures put { IfOk result (λ fresh. (was : Option Chain) ×
         ChangesAt catalog.old.zones (lower_name apex.now) was (Some chain.items) catalog.new.zones ×

@@ -1,15 +1,16 @@
 //! The handlers of the server's chains.
 
-use hickory_server::server::NoKeys;
-use hickory_server::store::authoritative::ZoneWithParent;
-use hickory_server::store::blocklist::BlocklistZoneHandler;
-use hickory_server::zone_handler::Catalog;
-use hickory_server::zone_store::Either;
+use either::Either;
+use hickory_catalog::catalog::Catalog;
+use hickory_store::blocklist::BlocklistZoneHandler;
+use signed_server::LeftToServer;
 use std::rc::Rc;
+use tsig::TsigVerifier;
+use zones::Zone;
 
-/// A handler of a chain: a zone, with the zone above it if there is one, or the list of blocked names that all chains
-/// share.
-pub type Handler = Either<ZoneWithParent, Rc<BlocklistZoneHandler>>;
+/// A handler of a chain: a zone, whose journal, if it has one, is in files of this type; or the list of blocked names
+/// that all chains share.
+pub type Handler<D> = Either<Zone<TsigVerifier, D>, Rc<BlocklistZoneHandler>>;
 
-/// A catalog of such chains, without keys.
-pub type Zones = Catalog<NoKeys, Handler>;
+/// A catalog of such chains. A server with keys signs its replies.
+pub type Zones<D> = Catalog<LeftToServer, Handler<D>>;

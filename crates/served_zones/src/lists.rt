@@ -12,7 +12,7 @@ use hickory_server::store::blocklist::{
 use name_lists::{ListReport, add_list};
 use std::alloc::{AllocError, Global};
 
-/// What is done with blocked names: their addresses are 0.0.0.0 and `::`, whatever their zone has.
+/// How blocked names are answered: their addresses are 0.0.0.0 and `::`, whatever their zone has.
 fn blocking() -> BlocklistConfig
     ensures action { result.consult_action ≡ Enforce }
     ensures ipv4 { result.sinkhole_ipv4 ≡ None }
@@ -23,15 +23,15 @@ fn blocking() -> BlocklistConfig
     config
 }
 
-/// A list without names. The addresses of what is put on it are 0.0.0.0 and `::`, whatever the zone of a name has.
+/// A list without names. The addresses of a name on it are 0.0.0.0 and `::`, whatever the zone of the name has.
 pub fn blocklist(alloc: Global) -> Result<BlocklistZoneHandler, AllocError>
     ensures { IfOk result IsEmptyList }
 {
     Ok(BlocklistZoneHandler::new(alloc, Name::root(), blocking())?)
 }
 
-/// Puts the names that the lines of a list give on a list, written in any of the ways that people have them
-/// (`name_lists`), and tells what became of its lines. After an error some of the names are on it.
+/// Adds the names that the lines of a text give to a list, in any of the forms that `name_lists` reads. Returns what was
+/// done with the lines. After an error some of the names are on the list.
 pub fn add_names(
     alloc: Global,
     list: &mut BlocklistZoneHandler,

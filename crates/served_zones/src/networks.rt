@@ -1,12 +1,12 @@
 //! Who may use a server.
 
 ghost use Rattle.std.specs.Prelude.{IfOk};
-ghost use Rattle.access_control.specs.Access.{SameNetworks};
+ghost use Rattle.server_limits.specs.Access.{SameNetworks};
 
 use hickory_server::access::{AccessControl, IpNet};
 use std::alloc::{AllocError, Global};
 
-/// The access list of these networks: who may not use the server, and who may.
+/// The access list of these networks: whose clients may not use the server, and whose may.
 pub fn access(
     alloc: Global,
     denied: &[IpNet],

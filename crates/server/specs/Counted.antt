@@ -10,7 +10,7 @@ abbrev pub one_counted : Bool → Counters → List ℕ → Counters
 one_counted true counters message = message_counted counters true (length message)
 one_counted false counters reply = reply_counted counters reply
 
--- The messages that stand whole at the front of the bytes, behind their lengths, are counted, one after the other.
+-- The messages that are whole at the front of the bytes, after their lengths, are counted, one after the other.
 pub record AreCounted (count : Counters → List ℕ → Counters) (bytes : List ℕ) (old new : Counters) : Type 0 where
   pub messages : List (List ℕ)
   pub end : ℕ
@@ -18,7 +18,7 @@ pub record AreCounted (count : Counters → List ℕ → Counters) (bytes : List
   pub no_more : IsCutShort (drop end bytes)
   pub counted : new ≡ fold count old messages
 
--- a number that a message is answered with is counted, where it says why there is no reply
+-- a number that a message is answered with is counted, if it says why there is no reply
 abbrev pub number_counted : Counters → ℕ → Counters
 number_counted counters number =
     if nat_eq number 1 then unanswered_counted counters Denied else

@@ -64,8 +64,8 @@ pub data AnswerTold {S H : Type 0} (keyed : KeyedServer H) (before : Answering S
       → IsRefused keyed (arrival_of given source) refusal after.server.server.catalog.zones
       → told.number ≡ refusal_number refusal → told.written ≡ 0 → told.out ≡ old → waiting_in after ≡ waiting_in before → after.log ≡ before.log
       → AnswerTold keyed before given old told after
-  -- It has replies. As many as there is room for are written, each behind its length, and the others wait; the log may
-  -- tell it.
+  -- It has replies. As many as there is room for are written, each after its length, and the others wait; the log may
+  -- have it.
   answered : (source : SocketAddr) (replies : List (List ℕ)) → IsSource given.address given.port source
       → ServedWithKeys keyed (arrival_of given source) (Replies replies) after.server.server.catalog.zones
       → ArePut replies old 0 told.out told.written (waiting_in after) → AreLogged before.log (arrival_of given source) replies after.log → told.number ≡ 0

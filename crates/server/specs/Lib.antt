@@ -1,9 +1,13 @@
 pub mod Calls
 pub mod Counted
 pub mod Exports
+pub mod Faults
 pub mod Frames
+pub mod Journals
 pub mod Limited
 pub mod Lists
 pub mod Logged
+pub mod Networks
 pub mod Serving
+pub mod Settings
 pub mod Updates

@@ -1,9 +1,9 @@
--- What becomes of what was written in answer to a datagram, where networks of clients get so many replies.
+-- What becomes of what was written in answer to a datagram, if networks of clients get so many replies.
 use Rattle.std.specs.Prelude.{◌≡◌, ◌≢◌, ◌⊎◌, ◌*◌, [], ℕ, Bool, List, None, Option, Some, false, replicate, true}
-use Rattle.rate_limits.specs.Limits.{Limits, counted_before, empty, one_more, verdict_of}
-use Rattle.rate_limits.specs.Truncating.{IsTruncated}
-use Rattle.rate_limits.specs.declared.limits.Verdict.{Verdict}
-use Rattle.rate_limits.specs.declared.limits.Verdict.TheVariants.{Drop, Send, Truncate}
+use Rattle.server_limits.specs.Limits.{Limits, counted_before, empty, one_more, verdict_of}
+use Rattle.server_limits.specs.Truncating.{IsTruncated}
+use Rattle.server_limits.specs.declared.limits.Verdict.{Verdict}
+use Rattle.server_limits.specs.declared.limits.Verdict.TheVariants.{Drop, Send, Truncate}
 use Rattle.server.specs.Calls.{ToldOfMessage, replies_in}
 use Rattle.server.specs.Frames.{BeginsWith, IsFrame}
 
@@ -12,7 +12,7 @@ abbrev pub verdict_on : Limits → List ℕ → ℕ → Verdict
 verdict_on limits address now = verdict_of limits.limit limits.slip (counted_before limits address now)
 
 -- In the place of a reply that was written, one is written that says that the whole is to be had over TCP. Or nothing
--- is, without memory for it or where the reply has no question, and the number 8 says so.
+-- is, without memory for it or if the reply has no question, and the number 8 says so.
 abbrev pub IsShortened : List ℕ → ℕ → List ℕ → Type 0
 IsShortened old number new = ((number ≡ 0) × (reply : List ℕ) × (short : List ℕ) × BeginsWith old reply × IsTruncated reply short × IsFrame new short) ⊎ ((number ≡ 8) × (new ≡ []))
 
@@ -29,7 +29,7 @@ pub record Client : Type 0 where
   pub stream : Bool
   pub now : ℕ
 
--- What is told of a message becomes this, where replies to datagrams may be limited, and so do the limits.
+-- What is told of a message becomes this, if replies to datagrams may be limited, and so do the limits.
 pub data IsLimited (limits : Option Limits) (client : Client) (made told : ToldOfMessage) (after : Option Limits) : Type 0 where
   -- Nothing was written, or it is for a stream, or there are no limits.
   free : (made.number ≢ 0) ⊎ ((client.stream ≡ true) ⊎ ((replies_in made ≡ []) ⊎ (limits ≡ None))) → told.number ≡ made.number → replies_in told ≡ replies_in made → after ≡ limits

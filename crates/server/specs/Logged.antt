@@ -12,7 +12,7 @@ abbrev pub is_stream : Protocol → Bool
 is_stream Udp = false
 is_stream other = true
 
--- What becomes of a log at a message that came so, and has these replies: it is told with the first of them.
+-- What becomes of a log at a message that came so, and has these replies: it is logged with the first of them.
 pub data AreLogged (old : QueryLog) (came : Arrival) (replies : List (List ℕ)) (new : QueryLog) : Type 0 where
   no_reply : replies ≡ [] → new ≡ old → AreLogged old came replies new
   with_first : (reply : List ℕ) → slice_get replies 0 ≡ Some reply

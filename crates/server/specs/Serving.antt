@@ -54,7 +54,7 @@ pub record StreamBytes : Type 0 where
   pub source : SocketAddr
   pub now : ℕ
 
--- how a server stands behind messages: the replies that wait, its zones and its log
+-- how a server is after messages: the replies that wait, its zones and its log
 pub record Standing (H : Type 0) : Type 0 where
   pub waiting : List (List ℕ)
   pub zones : List (DomainName × List H)
@@ -69,8 +69,8 @@ EndsStream keyed came None refused waiting zones = (refused ≡ []) × (zones �
 EndsStream keyed came (Some refusal) refused waiting zones = (message : List ℕ) × (refused ≡ message ∷ []) × (waiting ≡ [])
     × IsRefused keyed (arrival message came.source Tcp came.now) refusal zones
 
--- Messages that stand whole at the front of a stream's bytes are answered, each behind its length, up to one that is
--- refused, which the log does not tell.
+-- Messages that are whole at the front of a stream's bytes are answered, each after its length, up to one that is
+-- refused, which is not logged.
 pub record IsAnsweredStream {H : Type 0} (keyed : KeyedServer H) (log : QueryLog) (came : StreamBytes) (answer : StreamAnswer) (out : List ℕ) (left : Standing H) : Type 0 where
   pub messages : List (List ℕ)
   pub refused : List (List ℕ)

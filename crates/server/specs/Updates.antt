@@ -1,39 +1,28 @@
 -- Which zones take updates, and by which keys and rules.
-use Rattle.std.specs.Prelude.{◌≡◌, ◌≢◌, [], ℕ, All, Bool, IsTrue, List, is_some}
+use Rattle.std.specs.Prelude.{◌+◌, ℕ, All, Bool, IsTrue, List, not, position}
 use Rattle.std.specs.List.{list_any}
-use Rattle.update_policy.specs.RuleTexts.{IsRuleText}
-use Rattle.tsig.specs.Keys.{key_of}
-use Rattle.tsig.specs.KeyTexts.{IsUsable}
+use Rattle.std.specs.Option.{option_map_or}
 use Rattle.tsig.specs.declared.keys.Key.{Key}
 use Rattle.wire_names.specs.rr.domain.DomainName.{DomainName}
 use Rattle.wire_names.specs.rr.domain.NameOrder.{name_eq}
-use Rattle.served_zones.specs.ServedZones.{AreJoined, Chain, IsApexText}
-use Rattle.served_zones.specs.declared.parents.Loaded.{Loaded}
-use Rattle.served_updates.specs.Moved.{AreMoved, BothZones}
-use Rattle.served_updates.specs.declared.grants.Grant.{Grant}
-
--- There is a key, and each can be used.
-abbrev pub AreKeys : List Key → Type 0
-AreKeys keys = (keys ≢ []) × All IsUsable keys
-
--- Two texts are the name of a zone and a rule, whose key there is.
-pub record IsGrantOf (keys : List Key) (zone rule : List ℕ) (grant : Grant) : Type 0 where
-  pub apex : IsApexText zone grant.apex
-  pub spelled : IsRuleText rule grant.rule
-  pub known : IsTrue (is_some (key_of keys grant.rule.key))
+use Rattle.served_zones.specs.Given.{AreGiven}
+use Rattle.served_zones.specs.ServedZones.{Chain}
+use Rattle.served_zones.specs.declared.grants.Grant.{Grant}
 
 -- a zone of this name was added, letter case aside
-abbrev pub is_loaded : List Loaded → DomainName → Bool
-is_loaded loaded apex = list_any (λ zone. name_eq zone.apex apex) loaded
+abbrev pub is_added : List DomainName → DomainName → Bool
+is_added apexes apex = list_any (λ it. name_eq it apex) apexes
 
 -- Each rule is of a zone that was added.
-abbrev pub AreOfZones : List Grant → List Loaded → Type 0
-AreOfZones grants loaded = All (λ grant. IsTrue (is_loaded loaded grant.apex)) grants
+abbrev pub AreOfZones : List Grant → List DomainName → Type 0
+AreOfZones grants apexes = All (λ grant. IsTrue (is_added apexes grant.apex)) grants
 
--- The zones that were added are served: each beside the one above it, and those that have rules take updates by the
--- keys and their rules. Each rule is of one of them.
-pub record AreServed {D : Type 0} (keys : List Key) (grants : List Grant) (loaded : List Loaded) (old new : BothZones D) : Type 0 where
-  pub joined : List (DomainName × Chain)
-  pub are_joined : AreJoined loaded old.fixed joined
-  pub of_zones : AreOfZones grants loaded
-  pub are_moved : AreMoved keys grants loaded (record old { fixed = joined }) new
+-- the number of the first rule that is of no zone that was added, from 1; 0 if there is none
+abbrev pub number_of_none : List Grant → List DomainName → ℕ
+number_of_none grants apexes = option_map_or (λ place. place + 1) (position (λ grant. not (is_added apexes grant.apex)) grants) 0
+
+-- Each rule is of one of the zones of these apexes, which were added. Those that have rules take the updates that their
+-- rules grant to the keys.
+pub record AreServed (keys : List Key) (grants : List Grant) (apexes : List DomainName) (old new : List (DomainName × Chain)) : Type 0 where
+  pub of_zones : AreOfZones grants apexes
+  pub are_given : AreGiven keys grants apexes old new

@@ -1,4 +1,4 @@
-//! What becomes of messages and of streams: replies behind their lengths, and those that wait for room.
+//! What becomes of messages and of streams: replies after their lengths, and those that wait for room.
 
 ghost use Rattle.std.specs.Prelude.{◌≡◌, ◌<◌, ◌≤◌, ◌⊎◌, [], ℕ, List, IfErr, IfOk, IfSome, IsNone, length};
 ghost use Rattle.hickory_server.specs.declared.server.answer.Answer.TheVariants.{Replies};
@@ -23,7 +23,7 @@ pub enum Refusal {
     Denied,
     /// It is itself a response.
     Response,
-    /// Its bytes begin with no message (RFC 1035 section 4.1).
+    /// It is shorter than a header (RFC 1035 section 4.1.1).
     Unreadable,
     /// Memory was refused; the server is as before.
     Memory,
@@ -72,7 +72,7 @@ impl<S: ReplySigner, H: ZoneHandler> Answering<S, H> {
         }
     }
 
-    /// The replies to the message before, for their memory to be used again; none where some of them wait, which stay.
+    /// The replies to the message before, for their memory to be used again; none if some of them wait, which stay.
     // speed: served, an address
     #[inline(always)]
     fn take_spare(&mut self, alloc: Global) -> Items<Octets>
@@ -134,7 +134,7 @@ impl<S: ReplySigner, H: ZoneHandler> Answering<S, H> {
         self.pending.len().saturating_sub(self.taken)
     }
 
-    /// Writes replies that wait at this place, each behind its length, as many as there is room for: the place behind
+    /// Writes replies that wait at this place, each after its length, as many as there is room for: the place after
     /// them.
     // speed: served, an address
     #[inline(always)]
@@ -151,7 +151,7 @@ impl<S: ReplySigner, H: ZoneHandler> Answering<S, H> {
         end
     }
 
-    /// Writes replies that wait, each behind its length, as many as there is room for: how many bytes they take.
+    /// Writes replies that wait, each after its length, as many as there is room for: how many bytes they take.
     pub fn take(&mut self, out: &mut [u8]) -> usize
         ensures others { self.new ≡ record self.old { taken = self.new.taken } }
         ensures put { ArePut (waiting_in self.old) out.old 0 out.new result (waiting_in self.new) }
@@ -220,7 +220,7 @@ impl<S: ReplySigner, H: ZoneHandler> Answering<S, H> {
         self.answer_at(alloc, bytes, source, protocol, now, out, 0)
     }
 
-    /// The message that is to be answered next, which stands at the front of these bytes, if no reply waits and there
+    /// The message that is to be answered next, which is at the front of these bytes, if no reply waits and there
     /// is room for one of any size.
     fn next_message<'a>(&self, bytes: &'a [u8], room: usize) -> Option<&'a [u8]>
         ensures some { IfSome result (λ message. BeginsWith bytes.now message.now × (waiting_in self.now ≡ [])) }
@@ -232,7 +232,7 @@ impl<S: ReplySigner, H: ZoneHandler> Answering<S, H> {
         whole_message(bytes)
     }
 
-    /// Answers whole messages of a stream, where no reply waits.
+    /// Answers whole messages of a stream, if no reply waits.
     fn answer_whole(
         &mut self,
         alloc: Global,
@@ -279,8 +279,8 @@ impl<S: ReplySigner, H: ZoneHandler> Answering<S, H> {
         }
     }
 
-    /// Answers the messages that stand whole at the front of a stream's bytes, each behind its length (RFC 1035 section
-    /// 4.2.2), one after the other, while there is room for a reply of any size and none waits. It ends behind one that
+    /// Answers the messages that are whole at the front of a stream's bytes, each after its length (RFC 1035 section
+    /// 4.2.2), one after the other, while there is room for a reply of any size and none waits. It ends after one that
     /// is refused. Replies that waited before it are let go.
     pub fn answer_stream(
         &mut self,

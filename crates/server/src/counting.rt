@@ -19,7 +19,7 @@ fn count_one(counters: &mut Counters, came: bool, message: &[u8])
     }
 }
 
-/// Counts each of the messages that stand whole at the front of bytes, behind their lengths: as ones that came over a
+/// Counts each of the messages that are whole at the front of bytes, after their lengths: as ones that came over a
 /// stream, or as replies.
 pub fn count_frames(counters: &mut Counters, came: bool, frames: &[u8])
     ensures { AreCounted (one_counted came) frames.now counters.old counters.new }

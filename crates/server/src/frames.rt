@@ -1,4 +1,4 @@
-//! Replies behind their lengths (RFC 1035 section 4.2.2), and messages that stand so in a stream.
+//! Replies after their lengths (RFC 1035 section 4.2.2), and messages that come so in a stream.
 
 ghost use Rattle.std.specs.Prelude.{◌≡◌, ◌≤◌, ◌+◌, ◌-◌, ◌++◌, ◌∷◌, [], ℕ, List, IfSome, IsNone, drop, length, take};
 ghost use Rattle.server.specs.Frames.{ArePut, BeginsWith, HasNoRoom, IsCutShort, IsFrame};
@@ -8,7 +8,7 @@ use hickory_server::proto::Octets;
 /// So many bytes a reply has at most, with its length before it.
 pub const MOST_FRAME: usize = 65_537;
 
-/// The message that stands whole at the front of a stream's bytes.
+/// The message that is whole at the front of a stream's bytes.
 pub fn whole_message(bytes: &[u8]) -> Option<&[u8]>
     ensures whole { IfSome result (λ message. BeginsWith bytes.now message.now) }
     ensures none { IsNone result → IsCutShort bytes.now }
@@ -23,7 +23,7 @@ pub fn whole_message(bytes: &[u8]) -> Option<&[u8]>
     Some(&rest[..len])
 }
 
-/// Writes bytes at a place: the place behind them.
+/// Writes bytes at a place: the place after them.
 fn put(out: &mut [u8], at: usize, bytes: &[u8]) -> usize
     requires { at + length bytes.now ≤ length out.old }
     ensures len { length out.new ≡ length out.old }
@@ -35,7 +35,7 @@ fn put(out: &mut [u8], at: usize, bytes: &[u8]) -> usize
     end
 }
 
-/// Writes a reply behind its length in two bytes at this place: the place behind it, if there is room.
+/// Writes a reply after its length in two bytes at this place: the place after it, if there is room.
 pub fn put_frame(out: &mut [u8], at: usize, reply: &[u8]) -> Option<usize>
     requires { at ≤ length out.old }
     ensures len { length out.new ≡ length out.old }
@@ -71,7 +71,7 @@ fn put_only(out: &mut [u8], at: usize, reply: &[u8]) -> (usize, usize)
     }
 }
 
-/// Writes replies at this place, each behind its length, as many as there is room for: the place behind them, and how
+/// Writes replies at this place, each after its length, as many as there is room for: the place after them, and how
 /// many they are.
 pub fn put_frames(out: &mut [u8], at: usize, replies: &[Octets]) -> (usize, usize)
     requires { at ≤ length out.old }

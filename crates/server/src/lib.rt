@@ -8,6 +8,7 @@ pub mod answering;
 pub mod counting;
 pub mod frames;
 pub mod handle;
+pub mod journals;
 pub mod limiting;
 pub mod logging;
 pub mod service;

@@ -1,21 +1,21 @@
 //! How many replies over UDP networks of clients get.
 
 ghost use Rattle.std.specs.Prelude.{◌≡◌, ◌≤◌, ℕ, IfSome, List, length, take};
-ghost use Rattle.rate_limits.specs.Limits.{one_more};
-ghost use Rattle.rate_limits.specs.Truncating.{IsTruncated};
+ghost use Rattle.server_limits.specs.Limits.{one_more};
+ghost use Rattle.server_limits.specs.Truncating.{IsTruncated};
 ghost use Rattle.server.specs.Frames.{BeginsWith, IsFrame};
 ghost use Rattle.server.specs.Limited.{IsLimited, IsReplyLimited, IsShortened};
 
 use crate::frames::{put_frame, whole_message};
 use crate::told::DONE;
-use rate_limits::{RateLimits, Verdict, truncated};
+use server_limits::{RateLimits, Verdict, truncated};
 use std::alloc::Global;
 
 /// The reply to a datagram is kept back, since its network got as many as it may.
 const LIMITED: u32 = 8;
 
-/// Writes in the place of a reply, which stands behind its length at the front, that the whole is to be had over TCP:
-/// the place behind it. `None` where there is no memory for it, or the reply has no question.
+/// Writes in the place of a reply, which is after its length at the front, that the whole is to be had over TCP:
+/// the place after it. `None` if there is no memory for it, or the reply has no question.
 fn put_truncated(alloc: Global, out: &mut [u8], written: usize) -> Option<usize>
     requires { written ≤ length out.old }
     ensures len { length out.new ≡ length out.old }
@@ -76,7 +76,7 @@ fn limit_reply(
     }
 }
 
-/// Limits what was written in answer to a message, where it is a datagram and replies are limited: the number that is
+/// Limits what was written in answer to a message, if it is a datagram and replies are limited: the number that is
 /// answered.
 pub fn limit(
     alloc: Global,

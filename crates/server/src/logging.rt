@@ -19,7 +19,7 @@ fn is_stream(protocol: Protocol) -> bool
     }
 }
 
-/// Has a log tell a message with the first of its replies.
+/// Logs a message with the first of its replies.
 // speed: served, an address
 #[inline(always)]
 pub fn log_replies(

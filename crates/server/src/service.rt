@@ -1,106 +1,121 @@
 //! The server that C holds: what it answers by, and how it is set.
 
-ghost use Rattle.std.specs.Prelude.{◌≡◌, ◌++◌, ◌∷◌, [], All, IfOk, OnOk, Some, option_map};
-ghost use Rattle.access_control.specs.Access.{Inserts, Network, SameNetworks};
-ghost use Rattle.served_keys.specs.ServedKeys.{IsKeyName, all_networks};
-ghost use Rattle.served_updates.specs.declared.grants.Grant.{Grant as Granted};
-ghost use Rattle.served_zones.specs.ServedZones.{AreJoined, IsLoadedAs};
-ghost use Rattle.served_zones.specs.declared.parents.Loaded.{Loaded};
+ghost use Rattle.std.specs.Prelude.{◌≡◌, ◌≤◌, ◌↔◌, ◌++◌, ◌∷◌, [], IfOk, IsOk, OnErr, OnOk, None, Some, option_map};
+ghost use Rattle.server_limits.specs.Access.{Inserts, SameNetworks};
+ghost use Rattle.served_keys.specs.ServedKeys.{AreKeysOfFile, IsKeyNamed, all_networks};
+ghost use Rattle.served_zones.specs.Grants.{IsGrantOf};
+ghost use Rattle.served_zones.specs.ServedZones.{IsLoadedAs, IsZoneOfFile};
+ghost use Rattle.served_zones.specs.declared.grants.Grant.{Grant as Granted};
+ghost use Rattle.server.specs.Networks.{HasNoNetwork, InsertsText};
 ghost use Rattle.wire_names.specs.rr.domain.DomainName.{DomainName};
 
 use crate::answering::Answering;
-use crate::settings::{SettingFault, blocklist, key_name, network, shared, zone_name, zone_rule};
+use crate::settings::{SettingFault, blocklist, key_name, network, zone_name, zone_rule};
 use crate::updates::see_zones;
-use hickory_server::server::{NoKeys, Rules, Server};
+use hickory_server::proto::{LowerName, Name};
+use hickory_server::server::{Rules, Server};
 use hickory_server::store::blocklist::BlocklistZoneHandler;
 use hickory_server::zone_handler::Catalog;
+use hickory_server::zone_store::Either;
+use journal::host_file::HostFile;
 use name_lists::ListReport;
-use rate_limits::RateLimits;
 use served_keys::files::keys_of_file;
 use served_keys::networks::with_all;
-use served_updates::grants::Grant;
-use served_updates::moving::{self, move_zones};
 use served_zones::chains::{chain, put_chain};
-use served_zones::handler::Zones as FixedZones;
+use served_zones::grants::{Grant, grant_updates};
+use served_zones::handler::{self, Zones};
 use served_zones::identifier::identifier;
-use served_zones::parents::{Loaded, alone, join_parents};
-use served_zones::zones::zone_of_file;
+use served_zones::zone_files::zone_of_file;
+use server_limits::RateLimits;
 use server_reports::Counters;
 use signed_server::{LeftToServer, SignedServer};
-use sqlite_disk::Memory;
 use std::alloc::{AllocError, Global};
 use std::rc::Rc;
 use tsig::Keys;
 
-/// A handler of a chain. No zone has a journal here, so that the type of a journal's files stands for none.
-pub type Handler = moving::Handler<Memory>;
+/// A handler of a chain. The files of its journal, if it has one, are the caller's.
+pub type Handler = handler::Handler<HostFile>;
 
-/// A server, with what it has done in numbers, how many replies networks get, the zones that were added and are not
-/// served yet, in their order, the rules of who may update which, and the list of blocked names for zones that are
+/// A server, with what it has done in numbers, how many replies networks get, the names of the apexes of its zones in
+/// the order of the calls, the rules of who may update which zone, and the list of blocked names for zones that are
 /// still to come.
 #[derive(Drop)]
 pub struct Service {
     pub answering: Answering<LeftToServer, Handler>,
     pub counters: Counters,
     pub limits: Option<RateLimits>,
-    added: FixedZones,
-    loaded: Vec<Loaded>,
+    apexes: Vec<Name>,
     grants: Vec<Grant>,
     list: Option<Rc<BlocklistZoneHandler>>,
+    /// The names of the apexes of the zones that have a journal, in the order in which the journals were opened.
+    pub(crate) journals: Vec<LowerName>,
 }
 
-/// Puts the zone of this name from the bytes of its file into the catalog, with the list of blocked names behind it, if
-/// there is one. After `ZoneTwice` it is there, and the one that was there is gone.
+/// Puts the zone of this name from the bytes of its file into the catalog, with the list of blocked names after it, if
+/// there is one. Returns the name of its apex. After `ZoneTwice` the zone is there, and the one that was there is gone.
 fn load(
     alloc: Global,
-    catalog: &mut FixedZones,
+    catalog: &mut Zones<HostFile>,
     name: &[u8],
     bytes: &[u8],
     list: Option<&Rc<BlocklistZoneHandler>>,
-) -> Result<Loaded, SettingFault>
-    ensures loaded { IfOk result (λ loaded.
-        IsLoadedAs name.now (option_map (λ it. it.now.value) list.entry) loaded catalog.old.zones catalog.new.zones) }
+) -> Result<Name, SettingFault>
+    ensures loaded { IfOk result (λ apex.
+        IsLoadedAs (IsZoneOfFile bytes.now) name.now (option_map (λ it. it.now.value) list.entry) apex
+        catalog.old.zones catalog.new.zones) }
     ensures others { catalog.new ≡ record catalog.old { zones = catalog.new.zones } }
 {
     let apex = zone_name(alloc, name)?;
     let zone = zone_of_file(alloc, &apex, bytes)?;
-    let handler = alone(alloc, zone)?;
-    let chain = chain(alloc, handler, list)?;
-    let list = shared(list)?;
+    let chain = chain(alloc, Either::Left(zone), list)?;
     if put_chain(alloc, catalog, &apex, chain)? {
-        Ok(Loaded { apex, list })
+        Ok(apex)
     } else {
         Err(SettingFault::ZoneTwice)
     }
 }
 
 /// A server without zones and keys, which everybody may use.
-fn empty_server(alloc: Global) -> Result<SignedServer<LeftToServer, Handler>, AllocError> {
+fn empty_server(alloc: Global) -> Result<SignedServer<LeftToServer, Handler>, AllocError>
+    ensures keys { IfOk result (λ made. made.keys ≡ []) }
+    ensures transfer_keys { IfOk result (λ made. made.transfer_keys.items ≡ []) }
+    ensures zones { IfOk result (λ made. made.server.catalog.zones ≡ []) }
+    ensures identifier { IfOk result (λ made. made.server.catalog.nsid ≡ None) }
+    ensures denied { IfOk result (λ made. HasNoNetwork made.server.rules.access.deny) }
+    ensures allowed { IfOk result (λ made. HasNoNetwork made.server.rules.access.allow) }
+    ensures transfers_denied { IfOk result (λ made. HasNoNetwork made.server.rules.transfers.deny) }
+    ensures transfers_allowed { IfOk result (λ made. HasNoNetwork made.server.rules.transfers.allow) }
+    ensures limit { IfOk result (λ made. made.server.rules.max_udp ≡ 1232) }
+{
     let catalog = Catalog::new(alloc, LeftToServer);
-    let server = Server::new(alloc, Rules::new(alloc), catalog)?;
-    SignedServer::new(alloc, server, Keys::new(alloc))
+    let rules = Rules::new(alloc);
+    let server = Server::new(alloc, rules, catalog)?;
+    let signed = SignedServer::new(alloc, server, Keys::new(alloc))?;
+    Ok(signed)
 }
 
 impl Service {
-    ghost use Rattle.server.specs.Serving.{waiting_in};
     ghost use Rattle.server.specs.Limited.{AreLimitsOf};
     ghost use Rattle.server.specs.Lists.{IsListOfText};
-    ghost use Rattle.server.specs.Updates.{AreKeys, AreServed, IsGrantOf};
+    ghost use Rattle.server.specs.Settings.{IsUnset, rules_of, with_identifier, with_keys, with_rules, with_transfer_keys, with_zones, zones_of};
+    ghost use Rattle.server.specs.Updates.{AreServed};
 
     /// A server without zones and keys, which everybody may use.
-    pub fn new(alloc: Global) -> Result<Service, AllocError> {
+    pub fn new(alloc: Global) -> Result<Service, AllocError>
+        ensures { IfOk result IsUnset }
+    {
         Ok(Service {
             answering: Answering::new(alloc, empty_server(alloc)?),
             counters: Counters::new(),
             limits: None,
-            added: Catalog::new(alloc, NoKeys),
-            loaded: Vec::new(alloc),
+            apexes: Vec::new(alloc),
             grants: Vec::new(alloc),
             list: None,
+            journals: Vec::new(alloc),
         })
     }
 
-    /// Has the names that a text lists blocked in each zone that comes later, and tells what became of its lines.
+    /// Blocks the names that a text lists in each zone that is added later. Returns what became of its lines.
     pub fn set_blocklist(&mut self, alloc: Global, text: &[u8]) -> Result<ListReport, SettingFault>
         ensures list { IfOk result (λ counts.
             IsListOfText text.now counts (option_map (λ it. it.value) self.new.list)) }
@@ -111,23 +126,24 @@ impl Service {
         Ok(report)
     }
 
-    /// Adds the zone of this name from the bytes of its file, with the list of blocked names behind it, if there is
-    /// one. After `ZoneTwice` it is there, and the one that was there is gone.
+    /// Serves the zone of this name from the bytes of its file, with the list of blocked names after it, if there is
+    /// one. It takes no updates before [`Service::serve_zones`]. After `ZoneTwice` it is served in place of the zone
+    /// that was there. After another error it may be served.
     pub fn add_zone(&mut self, alloc: Global, name: &[u8], bytes: &[u8]) -> Result<(), SettingFault>
-        ensures ok { OnOk result ((loaded : Loaded) × (self.new.loaded.items ≡ self.old.loaded.items ++ loaded ∷ []) ×
-            IsLoadedAs name.now (option_map (λ it. it.value) self.old.list) loaded self.old.added.zones
-            self.new.added.zones) }
-        ensures server { self.new.answering ≡ self.old.answering }
+        ensures ok { OnOk result ((apex : DomainName) × (self.new.apexes.items ≡ self.old.apexes.items ++ apex ∷ []) ×
+            IsLoadedAs (IsZoneOfFile bytes.now) name.now (option_map (λ it. it.value) self.old.list) apex
+            (zones_of self.old) (zones_of self.new)) }
+        ensures others { self.new ≡ with_zones (record self.old { apexes = self.new.apexes }) (zones_of self.new) }
     {
-        let added = &mut self.added;
-        let loaded = load(alloc, added, name, bytes, self.list.as_ref())?;
-        Ok(self.loaded.push(loaded)?)
+        let catalog = &mut self.answering.server.server.catalog;
+        let apex = load(alloc, catalog, name, bytes, self.list.as_ref())?;
+        Ok(self.apexes.push(apex)?)
     }
 
     /// Takes the keys that the bytes of a file have, of which there is one at least. Those that were there are gone.
     pub fn set_keys(&mut self, alloc: Global, text: &[u8]) -> Result<(), SettingFault>
-        ensures ok { OnOk result (AreKeys self.new.answering.server.keys) }
-        ensures rules { self.new.answering.server.server ≡ self.old.answering.server.server }
+        ensures ok { OnOk result (AreKeysOfFile text.now self.new.answering.server.keys) }
+        ensures others { self.new ≡ with_keys self.old self.new.answering.server.keys }
     {
         self.answering.server.keys = keys_of_file(alloc, text)?;
         Ok(())
@@ -136,14 +152,14 @@ impl Service {
     /// Lets requests that a key of this name signed have transfers from anywhere, and keeps transfers from all networks
     /// but those that are allowed.
     pub fn allow_transfer_key(&mut self, alloc: Global, text: &[u8]) -> Result<(), SettingFault>
-        ensures ok { OnOk result ((name : DomainName) × IsKeyName text.now name ×
-            (self.new.answering.server.transfer_keys.items ≡ self.old.answering.server.transfer_keys.items ++ name ∷
-            []) ×
-            Inserts self.old.answering.server.server.rules.transfers.deny all_networks
-            self.new.answering.server.server.rules.transfers.deny) }
-        ensures allowed { SameNetworks self.old.answering.server.server.rules.transfers.allow
-            self.new.answering.server.server.rules.transfers.allow }
-        ensures access { self.new.answering.server.server.rules.access ≡ self.old.answering.server.server.rules.access }
+        ensures ok { OnOk result ((name : DomainName) × IsKeyNamed self.old.answering.server.keys text.now name ×
+            (self.new.answering.server.transfer_keys.items ≡
+            self.old.answering.server.transfer_keys.items ++ name ∷ []) ×
+            Inserts (rules_of self.old).transfers.deny all_networks (rules_of self.new).transfers.deny) }
+        ensures allowed { SameNetworks (rules_of self.old).transfers.allow (rules_of self.new).transfers.allow }
+        ensures others { self.new ≡ with_transfer_keys
+            (with_rules self.old (record (rules_of self.old) { transfers = (rules_of self.new).transfers }))
+            self.new.answering.server.transfer_keys }
     {
         let server = &mut self.answering.server;
         let name = key_name(alloc, &server.keys, text)?;
@@ -152,7 +168,7 @@ impl Service {
         Ok(server.transfer_keys.push(name)?)
     }
 
-    /// Lets a zone take the updates that a rule grants, which is as [`read_grant`](update_policy::read_grant) takes it;
+    /// Lets a zone take the updates that a rule grants, which is as [`read_rule`](update_policy::read_rule) takes it;
     /// its key is one of the server's.
     pub fn allow_update(
         &mut self,
@@ -162,44 +178,38 @@ impl Service {
     ) -> Result<(), SettingFault>
         ensures ok { OnOk result ((grant : Granted) × IsGrantOf self.old.answering.server.keys zone.now rule.now grant ×
             (self.new.grants.items ≡ self.old.grants.items ++ grant ∷ [])) }
-        ensures server { self.new.answering ≡ self.old.answering }
+        ensures others { self.new ≡ record self.old { grants = self.new.grants } }
     {
         let grant = zone_rule(alloc, &self.answering.server.keys, zone, rule)?;
         Ok(self.grants.push(grant)?)
     }
 
-    /// Serves the zones that were added: each beside the zone above it, if there is one, which has its DS records (RFC
-    /// 4035 section 3.1.4.1); and those of which there are rules take updates. Each rule is of a zone that was added.
-    /// After an error some zones are served.
+    /// Gives the zones that were added their rules: a zone that has one takes the updates that its rules grant to these
+    /// keys. `RuleWithoutZone` says that a rule is of no zone that was added, and changes nothing. After `Memory` some
+    /// zones have their rules.
     pub fn serve_zones(&mut self, alloc: Global) -> Result<(), SettingFault>
-        ensures ok { OnOk result (AreServed self.old.answering.server.keys self.old.grants.items self.old.loaded.items
-            (record { fixed = self.old.added.zones; updated = self.old.answering.server.server.catalog.zones })
-            (record { fixed = self.new.added.zones; updated = self.new.answering.server.server.catalog.zones })) }
-        ensures keys { self.new.answering.server.keys ≡ self.old.answering.server.keys }
-        ensures rules { self.new.answering.server.server.rules ≡ self.old.answering.server.server.rules }
+        ensures ok { OnOk result (AreServed self.old.answering.server.keys self.old.grants.items self.old.apexes.items
+            (zones_of self.old) (zones_of self.new)) }
+        ensures others { self.new ≡ with_zones self.old (zones_of self.new) }
     {
-        join_parents(alloc, &mut self.added, &self.loaded)?;
-        see_zones(&self.grants, &self.loaded)?;
+        see_zones(&self.grants, &self.apexes)?;
         let server = &mut self.answering.server;
-        Ok(move_zones(
+        Ok(grant_updates(
             alloc,
             &server.keys,
             &self.grants,
-            &self.loaded,
-            &mut self.added,
+            &self.apexes,
             &mut server.server.catalog,
         )?)
     }
 
     /// Lets the addresses of a network use the server.
     pub fn allow(&mut self, text: &[u8]) -> Result<(), SettingFault>
-        ensures ok { OnOk result ((network : Network) ×
-            Inserts self.old.answering.server.server.rules.access.allow
-            (network ∷ []) self.new.answering.server.server.rules.access.allow) }
-        ensures denied { SameNetworks self.old.answering.server.server.rules.access.deny
-            self.new.answering.server.server.rules.access.deny }
-        ensures transfers { self.new.answering.server.server.rules.transfers ≡
-            self.old.answering.server.server.rules.transfers }
+        ensures ok { OnOk result
+            (InsertsText text.now (rules_of self.old).access.allow (rules_of self.new).access.allow) }
+        ensures denied { SameNetworks (rules_of self.old).access.deny (rules_of self.new).access.deny }
+        ensures others { self.new ≡ with_rules self.old
+            (record (rules_of self.old) { access = (rules_of self.new).access }) }
     {
         let network = network(text)?;
         let allowed = &mut self.answering.server.server.rules.access;
@@ -208,27 +218,24 @@ impl Service {
 
     /// Keeps the addresses of a network from the server.
     pub fn deny(&mut self, text: &[u8]) -> Result<(), SettingFault>
-        ensures ok { OnOk result ((network : Network) ×
-            Inserts self.old.answering.server.server.rules.access.deny
-            (network ∷ []) self.new.answering.server.server.rules.access.deny) }
-        ensures allowed { SameNetworks self.old.answering.server.server.rules.access.allow
-            self.new.answering.server.server.rules.access.allow }
-        ensures transfers { self.new.answering.server.server.rules.transfers ≡
-            self.old.answering.server.server.rules.transfers }
+        ensures ok { OnOk result
+            (InsertsText text.now (rules_of self.old).access.deny (rules_of self.new).access.deny) }
+        ensures allowed { SameNetworks (rules_of self.old).access.allow (rules_of self.new).access.allow }
+        ensures others { self.new ≡ with_rules self.old
+            (record (rules_of self.old) { access = (rules_of self.new).access }) }
     {
         let network = network(text)?;
         let denied = &mut self.answering.server.server.rules.access;
         Ok(denied.insert_deny(&[network])?)
     }
 
-    /// Lets the addresses of a network have transfers, where they may use the server.
+    /// Lets the addresses of a network have transfers, if they may use the server.
     pub fn allow_transfer(&mut self, text: &[u8]) -> Result<(), SettingFault>
-        ensures ok { OnOk result ((network : Network) ×
-            Inserts self.old.answering.server.server.rules.transfers.allow
-            (network ∷ []) self.new.answering.server.server.rules.transfers.allow) }
-        ensures denied { SameNetworks self.old.answering.server.server.rules.transfers.deny
-            self.new.answering.server.server.rules.transfers.deny }
-        ensures access { self.new.answering.server.server.rules.access ≡ self.old.answering.server.server.rules.access }
+        ensures ok { OnOk result
+            (InsertsText text.now (rules_of self.old).transfers.allow (rules_of self.new).transfers.allow) }
+        ensures denied { SameNetworks (rules_of self.old).transfers.deny (rules_of self.new).transfers.deny }
+        ensures others { self.new ≡ with_rules self.old
+            (record (rules_of self.old) { transfers = (rules_of self.new).transfers }) }
     {
         let network = network(text)?;
         let receivers = &mut self.answering.server.server.rules.transfers;
@@ -237,12 +244,11 @@ impl Service {
 
     /// Keeps transfers from the addresses of a network.
     pub fn deny_transfer(&mut self, text: &[u8]) -> Result<(), SettingFault>
-        ensures ok { OnOk result ((network : Network) ×
-            Inserts self.old.answering.server.server.rules.transfers.deny
-            (network ∷ []) self.new.answering.server.server.rules.transfers.deny) }
-        ensures allowed { SameNetworks self.old.answering.server.server.rules.transfers.allow
-            self.new.answering.server.server.rules.transfers.allow }
-        ensures access { self.new.answering.server.server.rules.access ≡ self.old.answering.server.server.rules.access }
+        ensures ok { OnOk result
+            (InsertsText text.now (rules_of self.old).transfers.deny (rules_of self.new).transfers.deny) }
+        ensures allowed { SameNetworks (rules_of self.old).transfers.allow (rules_of self.new).transfers.allow }
+        ensures others { self.new ≡ with_rules self.old
+            (record (rules_of self.old) { transfers = (rules_of self.new).transfers }) }
     {
         let network = network(text)?;
         let others = &mut self.answering.server.server.rules.transfers;
@@ -251,8 +257,9 @@ impl Service {
 
     /// Sets how many bytes a reply over UDP has at most, from 512 on.
     pub fn set_max_udp(&mut self, size: u16) -> Result<(), SettingFault>
-        ensures ok { OnOk result (self.new.answering.server.server.rules ≡ record self.old.answering.server.server.rules
-            { max_udp = size }) }
+        ensures taken { IsOk result ↔ (512 ≤ size) }
+        ensures ok { OnOk result (self.new ≡ with_rules self.old (record (rules_of self.old) { max_udp = size })) }
+        ensures err { OnErr result (self.new ≡ self.old) }
     {
         if size < 512 {
             return Err(SettingFault::MaxUdp);
@@ -261,8 +268,8 @@ impl Service {
         Ok(())
     }
 
-    /// Sets how many replies over UDP a network of clients gets a second, and of how many above that one is truncated;
-    /// all where the rate is 0.
+    /// Sets how many replies over UDP a network of clients gets in a second, and of how many above that one is
+    /// truncated. A rate of 0 is no limit.
     pub fn set_rate_limit(
         &mut self,
         alloc: Global,
@@ -282,9 +289,8 @@ impl Service {
 
     /// Sets what identifies the server to clients that ask (RFC 5001).
     pub fn set_identifier(&mut self, alloc: Global, bytes: &[u8]) -> Result<(), SettingFault>
-        ensures ok { OnOk result (self.new.answering.server.server.catalog ≡ record
-            self.old.answering.server.server.catalog { nsid = Some bytes.now }) }
-        ensures rules { self.new.answering.server.server.rules ≡ self.old.answering.server.server.rules }
+        ensures ok { OnOk result (self.new ≡ with_identifier self.old (Some bytes.now)) }
+        ensures err { OnErr result (self.new ≡ self.old) }
     {
         let payload = identifier(alloc, bytes)?;
         self.answering.server.server.catalog.set_nsid(Some(payload));

@@ -1,10 +1,13 @@
-//! What a server is told before its first message, and why it is not taken.
+//! The settings of a server before its first message, and why one is not taken.
 
-ghost use Rattle.std.specs.Prelude.{◌≡◌, IfOk, Some, option_map};
+ghost use Rattle.std.specs.Prelude.{◌≡◌, IfOk, Some};
+ghost use Rattle.server_limits.specs.NetworkTexts.{IsNetworkText};
+ghost use Rattle.served_zones.specs.Grants.{IsGrantOf};
 ghost use Rattle.served_zones.specs.ServedZones.{IsApexText};
-ghost use Rattle.served_keys.specs.ServedKeys.{IsKeyName};
+ghost use Rattle.served_keys.specs.ServedKeys.{IsKeyNamed};
+ghost use Rattle.server.specs.Faults.{of_identifier, of_journal, of_key_name, of_keys, of_rule, of_zone};
 ghost use Rattle.server.specs.Lists.{IsListOfText};
-ghost use Rattle.server.specs.Updates.{IsGrantOf};
+ghost use Rattle.server.specs.declared.settings.SettingFault.TheVariants as setting_fault;
 
 use hickory_server::access::{IpNet, IpNetTextError};
 use hickory_server::proto::{Name, NameError};
@@ -12,12 +15,12 @@ use hickory_server::store::blocklist::BlocklistZoneHandler;
 use name_lists::ListReport;
 use served_keys::files::KeysFault;
 use served_keys::names::{KeyNameFault, key_named};
-use served_updates::grants::{Grant, GrantFault, zone_grant};
-use served_updates::moving::MoveFault;
 use served_zones::chains::apex;
+use served_zones::grants::{Grant, GrantFault, zone_grant};
 use served_zones::identifier::IdentifierFault;
+use served_zones::journals::JournalFault;
 use served_zones::lists;
-use served_zones::zones::ZoneFault;
+use served_zones::zone_files::ZoneFault;
 use std::alloc::{AllocError, AllocFailed, Global};
 use std::rc::Rc;
 use std::str;
@@ -63,12 +66,12 @@ pub enum SettingFault {
         /// Which of the rules it is, from 1.
         number: usize,
     },
-    /// A zone that takes updates answers for the DS records of a zone right below it, and would not see itself change.
-    #[error("zone {number} takes updates, and a zone right below it is served too, whose DS records it has")]
-    ZoneBelow {
-        /// Which of the zones it is, from 1.
-        number: usize,
-    },
+    /// The journal of a zone is not opened.
+    #[error("{0}")]
+    Journal(JournalFault),
+    /// The zone has a journal.
+    #[error("the zone has a journal")]
+    JournalTwice,
     /// A text is not UTF-8.
     #[error("not UTF-8")]
     NotUtf8,
@@ -78,18 +81,24 @@ pub enum SettingFault {
 }
 
 impl From<AllocError> for SettingFault {
+    ghost from_gives = { λ _ e. e ≡ setting_fault.Memory };
+
     fn from(_e: AllocError) -> SettingFault {
         SettingFault::Memory
     }
 }
 
 impl<T: Drop> From<AllocFailed<T>> for SettingFault {
+    ghost from_gives = { λ _ e. e ≡ setting_fault.Memory };
+
     fn from(_e: AllocFailed<T>) -> SettingFault {
         SettingFault::Memory
     }
 }
 
 impl From<ZoneFault> for SettingFault {
+    ghost from_gives = { λ fault e. e ≡ of_zone fault };
+
     fn from(e: ZoneFault) -> SettingFault {
         match e {
             ZoneFault::Memory => SettingFault::Memory,
@@ -98,7 +107,20 @@ impl From<ZoneFault> for SettingFault {
     }
 }
 
+impl From<JournalFault> for SettingFault {
+    ghost from_gives = { λ fault e. e ≡ of_journal fault };
+
+    fn from(e: JournalFault) -> SettingFault {
+        match e {
+            JournalFault::Memory => SettingFault::Memory,
+            other => SettingFault::Journal(other),
+        }
+    }
+}
+
 impl From<IdentifierFault> for SettingFault {
+    ghost from_gives = { λ fault e. e ≡ of_identifier fault };
+
     fn from(e: IdentifierFault) -> SettingFault {
         match e {
             IdentifierFault::Long => SettingFault::LongIdentifier,
@@ -108,6 +130,8 @@ impl From<IdentifierFault> for SettingFault {
 }
 
 impl From<KeysFault> for SettingFault {
+    ghost from_gives = { λ fault e. e ≡ of_keys fault };
+
     fn from(e: KeysFault) -> SettingFault {
         match e {
             KeysFault::Memory => SettingFault::Memory,
@@ -117,6 +141,8 @@ impl From<KeysFault> for SettingFault {
 }
 
 impl From<KeyNameFault> for SettingFault {
+    ghost from_gives = { λ fault e. e ≡ of_key_name fault };
+
     fn from(e: KeyNameFault) -> SettingFault {
         match e {
             KeyNameFault::Memory => SettingFault::Memory,
@@ -126,47 +152,14 @@ impl From<KeyNameFault> for SettingFault {
 }
 
 impl From<GrantFault> for SettingFault {
+    ghost from_gives = { λ fault e. e ≡ of_rule fault };
+
     fn from(e: GrantFault) -> SettingFault {
         match e {
             GrantFault::Memory => SettingFault::Memory,
             other => SettingFault::Rule(other),
         }
     }
-}
-
-impl From<MoveFault> for SettingFault {
-    fn from(e: MoveFault) -> SettingFault {
-        match e {
-            MoveFault::Shared { place } => SettingFault::ZoneBelow {
-                number: place.saturating_add(1),
-            },
-            MoveFault::Memory => SettingFault::Memory,
-        }
-    }
-}
-
-/// The name that a text spells, with or without a dot at its end; the root is a dot alone.
-pub fn zone_name(alloc: Global, text: &[u8]) -> Result<Name, SettingFault>
-    ensures { IfOk result (IsApexText text.now) }
-{
-    let Ok(text) = str::from_utf8(text) else {
-        return Err(SettingFault::NotUtf8);
-    };
-    match apex(alloc, text) {
-        Ok(name) => Ok(name),
-        Err(NameError::Text) => Err(SettingFault::ZoneName),
-        Err(_) => Err(SettingFault::Memory),
-    }
-}
-
-/// The name of a key of these that a text spells, with or without a dot at its end.
-pub fn key_name(alloc: Global, keys: &Keys, text: &[u8]) -> Result<Name, SettingFault>
-    ensures { IfOk result (IsKeyName text.now) }
-{
-    let Ok(text) = str::from_utf8(text) else {
-        return Err(SettingFault::NotUtf8);
-    };
-    Ok(key_named(alloc, keys, text)?)
 }
 
 /// Bytes as a text.
@@ -177,6 +170,26 @@ fn text_of(bytes: &[u8]) -> Result<&str, SettingFault>
         Ok(text) => Ok(text),
         Err(_) => Err(SettingFault::NotUtf8),
     }
+}
+
+/// The name that a text spells, with or without a dot at its end. The root is a single dot.
+pub fn zone_name(alloc: Global, text: &[u8]) -> Result<Name, SettingFault>
+    ensures { IfOk result (IsApexText text.now) }
+{
+    let text = text_of(text)?;
+    match apex(alloc, text) {
+        Ok(name) => Ok(name),
+        Err(NameError::Text) => Err(SettingFault::ZoneName),
+        Err(_) => Err(SettingFault::Memory),
+    }
+}
+
+/// The name of a key of these that a text spells, with or without a dot at its end.
+pub fn key_name(alloc: Global, keys: &Keys, text: &[u8]) -> Result<Name, SettingFault>
+    ensures { IfOk result (IsKeyNamed keys.now text.now) }
+{
+    let text = text_of(text)?;
+    Ok(key_named(alloc, keys, text)?)
 }
 
 /// The rule of a zone that two texts spell, whose key is one of these.
@@ -194,11 +207,14 @@ pub fn zone_rule(
 }
 
 /// The network that a text spells.
-pub fn network(text: &[u8]) -> Result<IpNet, SettingFault> {
-    let Ok(text) = str::from_utf8(text) else {
-        return Err(SettingFault::NotUtf8);
-    };
-    text.parse::<IpNet>().map_err(SettingFault::Network)
+pub fn network(text: &[u8]) -> Result<IpNet, SettingFault>
+    ensures { IfOk result (IsNetworkText text.now) }
+{
+    let text = text_of(text)?;
+    match text.parse::<IpNet>() {
+        Ok(network) => Ok(network),
+        Err(fault) => Err(SettingFault::Network(fault)),
+    }
 }
 
 /// The list of the names in a text, and what became of its lines.
@@ -214,16 +230,4 @@ pub fn blocklist(
         return Err(SettingFault::NoNames);
     }
     Ok((Rc::new(alloc, list)?, report))
-}
-
-/// The list of blocked names once more, if there is one.
-pub fn shared(
-    list: Option<&Rc<BlocklistZoneHandler>>,
-) -> Result<Option<Rc<BlocklistZoneHandler>>, AllocError>
-    ensures { IfOk result (λ shared. option_map (λ it. it.value) shared ≡ option_map (λ it. it.now.value) list.entry) }
-{
-    match list {
-        Some(list) => Ok(Some(list.clone()?)),
-        None => Ok(None),
-    }
 }

@@ -141,7 +141,7 @@ fn tell_any<S: ReplySigner, H: ZoneHandler>(
     )
 }
 
-/// Answers a message: writes its replies, each behind its length in two bytes, as many as there is room for, and says
+/// Answers a message: writes its replies, each after its length in two bytes, as many as there is room for, and says
 /// how many bytes they take and how many replies wait. The number says why there is none.
 // speed: served, an address
 #[inline(always)]
@@ -164,7 +164,7 @@ pub fn tell_answer<S: ReplySigner, H: ZoneHandler>(
     ensures waiting { waiting.new ≡ length (waiting_in answering.new) }
     ensures within { written.new ≤ length out.new }
 {
-    // What is inlined behind this knows of which kind the address is.
+    // What is inlined after this knows of which kind the address is.
     if let Ok(octets) = <[u8; 4]>::try_from(source) {
         let source = source_of_four(octets, port);
         return tell_from(
@@ -176,7 +176,7 @@ pub fn tell_answer<S: ReplySigner, H: ZoneHandler>(
     )
 }
 
-/// Answers the messages that stand whole at the front of a stream's bytes, each behind its length in two bytes, and
+/// Answers the messages that are whole at the front of a stream's bytes, each after its length in two bytes, and
 /// says how many bytes they are, how many bytes of replies were written, and how many replies wait. The number says why
 /// the last of them has none. Replies that waited before it are let go.
 pub fn tell_stream<S: ReplySigner, H: ZoneHandler>(

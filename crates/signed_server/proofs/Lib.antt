@@ -1,5 +1,5 @@
 mod Courses
-mod Errors
 mod Keyless
 mod Puts
+mod Uncut
 mod Verified

@@ -8,9 +8,10 @@ use Rattle.wire_names.specs.rr.domain.NameOrder.{name_eq}
 use Rattle.wire_names.specs.declared.error.ProtoError.{ProtoError}
 use Rattle.wire_reading.specs.serialize.layout.WholeMessage.{MessageAt}
 use Rattle.wire_reading.specs.serialize.reading.MessageReading.{Reads}
-use Rattle.access_control.specs.Access.{IsAllowed, Network}
+use Rattle.server_limits.specs.Access.{IsAllowed, Network}
 use Rattle.hickory_base.specs.requests.RequestReading.{IsFaultOf, IsQuestionSection, message_of}
 use Rattle.hickory_base.specs.requests.Requests.{ReceivedRequest}
+use Rattle.hickory_server.specs.server.FormErrors.{IsFormError}
 use Rattle.hickory_server.specs.server.Ruling.{IsResponse}
 use Rattle.hickory_server.specs.server.ServedBy.{Arrival, BytesServed, LeavesBytes}
 use Rattle.hickory_server.specs.declared.server.answer.Answer.{Answer}
@@ -25,7 +26,6 @@ use Rattle.tsig.specs.declared.judgement.Verdict.TheVariants.{BadKey, BadSig, Ba
 use Rattle.tsig.specs.declared.keys.Key.{Key}
 use Rattle.signed_server.specs.KeyedServers.{KeyedServer}
 use Rattle.signed_server.specs.SignedAnswers.{IsRefused, IsSentSigned}
-use Rattle.signed_server.specs.Unread.{IsUnread}
 use Rattle.signed_server.specs.declared.service.Course.{Course}
 use Rattle.signed_server.specs.declared.service.Course.TheVariants.{Plain, Refuse, Sign}
 
@@ -94,9 +94,10 @@ pub data ServedWithKeys {H : Type 0} (keyed : KeyedServer H) (came : Arrival) (a
   -- It has no TSIG record: it is served as by a server without keys.
   plain : {judgement : Judgement} → IsForJudging keyed.keys keyed.rules came.bytes came.source → Judged keyed.keys came.bytes came.now judgement
       → course_of judgement ≡ Plain → BytesServed keyed.rules keyed.server came answer zones → ServedWithKeys keyed came answer zones
-  -- It begins with no message for the zones: FORMERR for a TSIG that is not its last record, and else no reply.
+  -- Its header can be read, and its body cannot: FORMERR (RFC 1035 section 4.1.1), as for a TSIG that is not its last
+  -- record (RFC 8945 section 5.2).
   unreadable : {judgement : Judgement} {e : ProtoError} → IsForJudging keyed.keys keyed.rules came.bytes came.source → Judged keyed.keys came.bytes came.now judgement
-      → IsFaultOf came.bytes e → IsUnread came.bytes e answer → zones ≡ keyed.server.zones → ServedWithKeys keyed came answer zones
+      → IsFaultOf came.bytes e → IsFormError came.bytes answer → zones ≡ keyed.server.zones → ServedWithKeys keyed came answer zones
   -- Its signature is good: it is served, by the rules for its key, and the replies are signed.
   good : {judgement : Judgement} {request : ReceivedRequest} {served : Answer} {theirs : Rules} → IsForJudging keyed.keys keyed.rules came.bytes came.source
       → Judged keyed.keys came.bytes came.now judgement → course_of judgement ≡ Sign → IsRequestOf came request

@@ -1,11 +1,9 @@
 -- The replies to signed requests (RFC 8945 sections 5.2 and 5.3): which messages are signed, and how one is signed
 -- behind the other.
-use Rattle.std.specs.Prelude.{◌≡◌, ◌≤◌, ◌-◌, ℕ, min, max, List, [], ◌∷◌, ◌++◌, length, Option, Some, None, All, true}
+use Rattle.std.specs.Prelude.{◌≡◌, ◌≢◌, ◌-◌, ℕ, min, max, List, [], ◌∷◌, ◌++◌, length, Option, Some, None, All, Contains, true}
 use Rattle.std.specs.List.{AllZip}
-use Rattle.wire_messages.specs.Numbers.{code_form_err, code_not_auth}
-use Rattle.wire_messages.specs.op.EdnsFields.{EdnsFields}
+use Rattle.wire_messages.specs.Numbers.{code_form_err, code_not_auth, code_serv_fail}
 use Rattle.wire_messages.specs.op.Metadata.{response_to}
-use Rattle.wire_messages.specs.serialize.writing.Reply.{Reply}
 use Rattle.wire_messages.specs.declared.op.header.Header.{Header}
 use Rattle.wire_messages.specs.declared.op.header.Metadata.{Metadata}
 use Rattle.wire_messages.specs.declared.protocol.Protocol.{Protocol}
@@ -17,15 +15,17 @@ use Rattle.hickory_base.specs.responses.Responses.{error_metadata}
 use Rattle.hickory_base.specs.declared.requests.message_request.MessageRequest.{MessageRequest}
 use Rattle.hickory_catalog.specs.replies.ReplyEdns.{reply_edns}
 use Rattle.hickory_server.specs.server.Ruling.{udp_limit}
+use Rattle.hickory_server.specs.server.Written.{bare_message}
 use Rattle.hickory_server.specs.declared.server.answer.Answer.{Answer}
 use Rattle.hickory_server.specs.declared.server.answer.Answer.TheVariants.{Replies}
 use Rattle.hickory_server.specs.declared.server.rules.Rules.{Rules}
-use Rattle.tsig.specs.Signing.{HasRoom, next_of, reply_of, room_of}
+use Rattle.tsig.specs.Signing.{next_of, reply_of, room_of}
 use Rattle.tsig.specs.Signing.{Reply as SignedReply}
 use Rattle.tsig.specs.Stripping.{IsStripped}
 use Rattle.tsig.specs.declared.judgement.Judgement.{Judgement}
 use Rattle.tsig.specs.declared.judgement.Judgement.TheVariants.{Signed}
 use Rattle.tsig.specs.declared.keys.Key.{Key}
+use Rattle.signed_server.specs.SharedReplies.{AreSharedOut, CannotBeSent, Fits}
 
 -- a request, how it was judged, and the moment of the replies in seconds since 1970
 pub record JudgedRequest : Type 0 where
@@ -50,21 +50,7 @@ message_limit keys judgement rules request = max (reply_limit rules request - ro
 
 -- ---- messages of a question alone
 
--- a message without records, but for its OPT record
-abbrev pub bare_message : Metadata → List ℕ → ℕ → Option EdnsFields → Reply
-bare_message metadata question count edns = record {
-  metadata = metadata;
-  question = question;
-  question_count = count;
-  edns = edns;
-  answers = [];
-  authorities = [];
-  soa = [];
-  additionals = [];
-  signature = None;
-}
-
--- The bytes are such a message within the limit, for a request: of this header, with the request's questions, and EDNS
+-- The bytes are a message without records, except for an OPT record, within the limit, for a request: of this header, with the request's questions, and EDNS
 -- where it has EDNS.
 abbrev pub IsBare : ℕ → MessageRequest → Metadata → List ℕ → Type 0
 IsBare limit request metadata bytes = (header : Header)
@@ -82,16 +68,20 @@ refusal_code other = code_form_err
 
 -- ---- what is signed
 
--- The message is within the limit, has a header, and one more record can be counted in it.
-abbrev pub Fits : ℕ → List ℕ → Type 0
-Fits limit message = (length message ≤ limit) × HasRoom message
-
--- The messages that are signed in the place of replies. They are these, without the signature that one may have; where
--- one has no room for its TSIG record, there is one message alone, of the question, with TC and no error (section 5.3).
-pub data AreToBeSigned (limit : ℕ) (request : MessageRequest) (replies : List (List ℕ)) (messages : List (List ℕ)) : Type 0 where
-  whole : AllZip IsStripped replies messages → All (Fits limit) messages → AreToBeSigned limit request replies messages
-  cut : {bytes : List ℕ} (stripped : List (List ℕ)) → AllZip IsStripped replies stripped → ¬ (All (Fits limit) stripped)
-      → IsBare limit request (truncated request.metadata) bytes → messages ≡ bytes ∷ [] → AreToBeSigned limit request replies messages
+-- The messages that are signed in the place of replies, without the signature that a reply may have.
+pub data AreToBeSigned (limit : ℕ) (request : ReceivedRequest) (replies : List (List ℕ)) (messages : List (List ℕ)) : Type 0 where
+  -- Over UDP each has room for its TSIG record,
+  whole : request.protocol ≡ Udp → AllZip IsStripped replies messages → All (Fits limit) messages → AreToBeSigned limit request replies messages
+  -- or one message is sent, of the question, with TC and no error (section 5.3).
+  cut : {bytes : List ℕ} (stripped : List (List ℕ)) → request.protocol ≡ Udp → AllZip IsStripped replies stripped → ¬ (All (Fits limit) stripped)
+      → IsBare limit request.message (truncated request.message.metadata) bytes → messages ≡ bytes ∷ [] → AreToBeSigned limit request replies messages
+  -- Over a stream they are sent in as many messages as they take,
+  shared : (stripped : List (List ℕ)) → request.protocol ≢ Udp → AllZip IsStripped replies stripped
+      → AreSharedOut limit request.message stripped messages → AreToBeSigned limit request replies messages
+  -- or, if one of them cannot be sent, one message is sent, of the question, with ServFail (RFC 1035 section 4.1.1).
+  failed : {bytes : List ℕ} (stripped : List (List ℕ)) (reply : List ℕ) → request.protocol ≢ Udp → AllZip IsStripped replies stripped
+      → Contains stripped reply → CannotBeSent limit request.message reply
+      → IsBare limit request.message (error_metadata request.message.metadata code_serv_fail) bytes → messages ≡ bytes ∷ [] → AreToBeSigned limit request replies messages
 
 -- ---- how they are signed
 
@@ -112,7 +102,7 @@ pub data AreSigned (keys : List Key) (judgement : Judgement) (now : ℕ) : List 
 pub record AreSentSigned (keys : List Key) (rules : Rules) (judged : JudgedRequest) (replies leaving : List (List ℕ)) : Type 0 where
   pub messages : List (List ℕ)
   pub last : Option (List ℕ)
-  pub to_be_signed : AreToBeSigned (message_limit keys judged.judgement rules judged.request) judged.request.message replies messages
+  pub to_be_signed : AreToBeSigned (message_limit keys judged.judgement rules judged.request) judged.request replies messages
   pub signed : AreSigned keys judged.judgement judged.now messages leaving last
 
 -- What leaves in the place of an answer: its replies, signed; and an answer without a reply stays.

@@ -1,6 +1,9 @@
 -- What holds of the replies of a server with keys.
-use Rattle.std.specs.Prelude.{◌≡◌, ◌↔◌, ℕ, Bool, false, List, length, [], ◌∷◌, ◌++◌, Option, Some, None, Contains}
+use Rattle.std.specs.Prelude.{◌≡◌, ◌≢◌, ◌⊎◌, ◌↔◌, ℕ, Bool, false, List, length, [], ◌∷◌, ◌++◌, Option, Some, None, Contains}
+use Rattle.std.specs.List.{AllByRecursion}
 use Rattle.wire_names.specs.serialize.layout.Bytes.{AreBytes}
+use Rattle.wire_messages.specs.Numbers.{code_serv_fail}
+use Rattle.wire_messages.specs.declared.protocol.Protocol.TheVariants.{Udp}
 use Rattle.wire_messages.specs.declared.rr.record.Record.{Record}
 use Rattle.wire_messages.specs.declared.rr.tsig.TSIG.{TSIG}
 use Rattle.tsig.specs.Judging.{HasKey, Judged}
@@ -11,6 +14,8 @@ use Rattle.tsig.specs.declared.judgement.Judgement.TheVariants.{Signed}
 use Rattle.tsig.specs.declared.judgement.Verdict.TheVariants.{Good}
 use Rattle.tsig.specs.declared.keys.Key.{Key}
 use Rattle.wire_names.specs.rr.domain.DomainName.{DomainName}
+use Rattle.hickory_base.specs.requests.Requests.{ReceivedRequest}
+use Rattle.hickory_base.specs.responses.Responses.{error_metadata}
 use Rattle.hickory_base.specs.declared.zone_store.handler.ZoneHandler.{Ghosts}
 use Rattle.hickory_catalog.specs.requests.Server.{server_of}
 use Rattle.hickory_catalog.specs.replies.Signing.{Signer}
@@ -19,7 +24,8 @@ use Rattle.hickory_server.specs.declared.server.answer.Answer.{Answer}
 use Rattle.hickory_server.specs.declared.server.rules.Rules.{Rules}
 use Rattle.hickory_server.specs.server.ServedBy.{Arrival, BytesServed}
 use Rattle.signed_server.specs.ServedWithKeys.{ServedWithKeys}
-use Rattle.signed_server.specs.SignedAnswers.{AreSigned, signed_behind}
+use Rattle.signed_server.specs.SharedReplies.{FitsUncut}
+use Rattle.signed_server.specs.SignedAnswers.{AreSigned, AreToBeSigned, IsBare, signed_behind}
 
 -- A message of bytes without a TSIG record, none of whose names leads into its header.
 pub record IsWhole (message : List ℕ) : Type 0 where
@@ -61,3 +67,10 @@ abbrev pub KeylessServesAll : {S H : Type 0} → Ghosts H → (S → Signer) →
 KeylessServesAll {S} {H} handler signature_for = (catalog : Catalog S H) (names : List DomainName) (rules : Rules) (came : Arrival) (answer : Answer) (zones : List (DomainName × List H))
     → ServedWithKeys (record { keys = []; transfer_keys = names; rules = rules; server = server_of handler signature_for catalog }) came answer zones
     ↔ BytesServed rules (server_of handler signature_for catalog) came answer zones
+
+-- Each message that is to be signed over a stream has room for its TSIG record, and no TC; or there is one message,
+-- which says ServFail.
+abbrev pub StreamsAreUncut : Type 0
+StreamsAreUncut = (limit : ℕ) (request : ReceivedRequest) (replies messages : List (List ℕ)) → request.protocol ≢ Udp → AreToBeSigned limit request replies messages
+    → AllByRecursion (FitsUncut limit) messages
+    ⊎ ((bytes : List ℕ) × (messages ≡ bytes ∷ []) × IsBare limit request.message (error_metadata request.message.metadata code_serv_fail) bytes)

@@ -1,19 +1,21 @@
 //! The replies to signed requests.
 
-ghost use Rattle.std.specs.Prelude.{◌≡◌, ◌≤◌, ◌↔◌, All, IfOk, IsTrue, List, ℕ};
+ghost use Rattle.std.specs.Prelude.{◌≡◌, ◌≢◌, ◌↔◌, ◌∷◌, [], All, IfOk, IsTrue, List, ℕ};
 ghost use Rattle.std.specs.List.{AllZip};
-ghost use Rattle.hickory_base.specs.responses.Responses.{error_metadata};
 ghost use Rattle.tsig.specs.Stripping.{IsStripped};
-ghost use Rattle.signed_server.specs.SignedAnswers.{AreSentSigned, AreToBeSigned, Fits, IsRefused, message_limit, refusal_code, reply_limit, truncated};
+ghost use Rattle.signed_server.specs.SharedReplies.{Fits};
+ghost use Rattle.signed_server.specs.SignedAnswers.{AreSentSigned, AreToBeSigned, IsBare, IsRefused, message_limit, refusal_code, reply_limit, truncated};
 
 use crate::bare::bare;
 use crate::chains::signed;
+use crate::parts::{fits, shared_out};
 use hickory_base::message_request::MessageRequest;
 use hickory_base::server::Request;
 use hickory_server::server::Rules;
+use hickory_server::server::writing::error_metadata;
 use hickory_wire::{Items, Metadata, Octets, Protocol, ResponseCode};
 use std::alloc::{AllocError, Global};
-use tsig::{Judgement, Keys, has_room, room, stripped};
+use tsig::{Judgement, Keys, room, stripped};
 
 /// How many bytes a reply has at most, its signature with it.
 fn reply_limit(rules: &Rules, request: &Request) -> u16
@@ -44,14 +46,7 @@ fn all_stripped(alloc: Global, replies: Items<Octets>) -> Result<Vec<Octets>, Al
     Ok(messages)
 }
 
-/// Whether a message has room for its TSIG record.
-fn fits(message: &Octets, limit: u16) -> bool
-    ensures { IsTrue result ↔ Fits limit message.now }
-{
-    message.len() <= usize::from(limit) && has_room(message.as_slice())
-}
-
-/// Whether all messages have.
+/// Whether all messages have room for their TSIG records.
 fn all_fit(messages: &[Octets], limit: u16) -> bool
     ensures { IsTrue result ↔ All (Fits limit) messages.now }
 {
@@ -72,22 +67,71 @@ fn truncated(request: &Metadata) -> Metadata
     metadata
 }
 
-/// The messages that are signed in the place of replies.
-fn to_be_signed(
+/// One message of the question, with this header.
+fn only_bare(
     alloc: Global,
     request: &MessageRequest,
+    metadata: Metadata,
+    limit: u16,
+) -> Result<Vec<Octets>, AllocError>
+    ensures { IfOk result (λ messages. (bytes : List ℕ) × IsBare limit request.now metadata bytes ×
+        (messages.items ≡ bytes ∷ [])) }
+{
+    let mut one = Vec::new(alloc);
+    one.push(bare(alloc, request, metadata, limit)?)?;
+    Ok(one)
+}
+
+/// The messages that are signed in the place of replies over UDP.
+fn datagrams_to_be_signed(
+    alloc: Global,
+    request: &Request,
     limit: u16,
     replies: Items<Octets>,
 ) -> Result<Vec<Octets>, AllocError>
+    requires { request.now.protocol ≡ Protocol.Udp }
     ensures { IfOk result (λ messages. AreToBeSigned limit request.now replies messages.items) }
 {
     let messages = all_stripped(alloc, replies)?;
     if all_fit(&messages, limit) {
         return Ok(messages);
     }
-    let mut one = Vec::new(alloc);
-    one.push(bare(alloc, request, truncated(&request.metadata), limit)?)?;
-    Ok(one)
+    let message = request.message();
+    only_bare(alloc, message, truncated(&message.metadata), limit)
+}
+
+/// The messages that are signed in the place of replies over a stream.
+fn stream_to_be_signed(
+    alloc: Global,
+    request: &Request,
+    limit: u16,
+    replies: Items<Octets>,
+) -> Result<Vec<Octets>, AllocError>
+    requires { request.now.protocol ≢ Protocol.Udp }
+    ensures { IfOk result (λ messages. AreToBeSigned limit request.now replies messages.items) }
+{
+    let stripped = all_stripped(alloc, replies)?;
+    if let Some(messages) = shared_out(alloc, request, stripped, limit)? {
+        return Ok(messages);
+    }
+    let message = request.message();
+    let failure = error_metadata(&message.metadata, ResponseCode::SERV_FAIL);
+    only_bare(alloc, message, failure, limit)
+}
+
+/// The messages that are signed in the place of replies.
+fn to_be_signed(
+    alloc: Global,
+    request: &Request,
+    limit: u16,
+    replies: Items<Octets>,
+) -> Result<Vec<Octets>, AllocError>
+    ensures { IfOk result (λ messages. AreToBeSigned limit request.now replies messages.items) }
+{
+    match request.protocol() {
+        Protocol::Udp => datagrams_to_be_signed(alloc, request, limit, replies),
+        _ => stream_to_be_signed(alloc, request, limit, replies),
+    }
 }
 
 /// What leaves in the place of replies to a request that was judged so.
@@ -104,7 +148,7 @@ pub(crate) fn sent(
         (record { request = request.now; judgement = judgement.now; now = now }) replies) }
 {
     let limit = message_limit(keys, judgement, rules, request);
-    let messages = to_be_signed(alloc, request.message(), limit, replies)?;
+    let messages = to_be_signed(alloc, request, limit, replies)?;
     signed(alloc, keys, judgement, messages, now)
 }
 
@@ -116,15 +160,6 @@ fn refusal_code(judgement: &Judgement) -> ResponseCode
         Judgement::Signed { .. } => ResponseCode::NOT_AUTH,
         _ => ResponseCode::FORM_ERR,
     }
-}
-
-/// The header of a reply of this code.
-pub(crate) fn refusal(request: &Metadata, code: ResponseCode) -> Metadata
-    ensures { result ≡ error_metadata request.now code }
-{
-    let mut metadata = Metadata::response_from_request(request);
-    metadata.response_code = code;
-    metadata
 }
 
 /// What leaves for a request whose signature is bad.
@@ -141,8 +176,7 @@ pub(crate) fn refused(
 {
     let limit = message_limit(keys, judgement, rules, request);
     let message = request.message();
-    let metadata = refusal(&message.metadata, refusal_code(judgement));
-    let mut messages = Vec::new(alloc);
-    messages.push(bare(alloc, message, metadata, limit)?)?;
+    let metadata = error_metadata(&message.metadata, refusal_code(judgement));
+    let messages = only_bare(alloc, message, metadata, limit)?;
     signed(alloc, keys, judgement, messages, now)
 }

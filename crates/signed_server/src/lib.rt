@@ -6,9 +6,9 @@ mod answers;
 mod bare;
 mod chains;
 mod laws;
+mod parts;
 mod placeholders;
 mod service;
-mod unread;
 
 pub use laws::{served_without_keys, signed_replies};
 pub use placeholders::LeftToServer;

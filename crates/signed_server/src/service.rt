@@ -13,12 +13,12 @@ ghost use Rattle.signed_server.specs.ServedWithKeys.{AreRulesFor, CountsNoRecord
 ghost use Rattle.signed_server.specs.SignedAnswers.{IsSentSigned};
 
 use crate::answers::{refused, sent};
-use crate::unread::unread;
 use hickory_base::access::AccessControl;
 use hickory_base::server::Request;
 use hickory_base::zone_store::ZoneHandler;
 use hickory_catalog::catalog::Catalog;
 use hickory_catalog::signer::ReplySigner;
+use hickory_server::server::form_error::form_error;
 use hickory_server::server::serve::ServeError;
 use hickory_server::server::{Answer, Rules, Server};
 use hickory_wire::{Items, Name, Octets, ProtoError, Protocol};
@@ -248,7 +248,7 @@ impl<S: ReplySigner, H: ZoneHandler> SignedServer<S, H> {
         match self.request.read_in_place(alloc, bytes, src, protocol) {
             Ok(()) => {}
             Err(ProtoError::Memory) => return Err(ServeError::Memory),
-            Err(fault) => return unread(alloc, bytes, fault),
+            Err(_) => return form_error(alloc, bytes),
         }
         let (keys, request) = (&self.keys, &self.request);
         let names = self.transfer_keys.as_slice();
@@ -276,15 +276,16 @@ impl<S: ReplySigner, H: ZoneHandler> SignedServer<S, H> {
     /// TSIG record, it is served as [`Server::serve`] serves it. Where its signature is good, it is served so too, TSIG
     /// record and all, by rules that let everybody have transfers where the key is one of `transfer_keys`, and every
     /// reply is signed over the bytes that leave, the first over the MAC of the request, and each further one of a
-    /// transfer over the MAC of the one before it (sections 5.3 and 5.3.1). A reply that has no room for its TSIG
-    /// record is replaced by the question alone, with TC and no error (section 5.3). The room is what the client takes
-    /// and the rules allow over UDP, and 65,535 bytes over a stream.
+    /// transfer over the MAC of the one before it (sections 5.3 and 5.3.1). Over UDP, the room is what the client takes
+    /// and the rules allow. A reply that has no room for its TSIG record is replaced by the question, with TC and no
+    /// error (section 5.3). Over a stream, the room is 65,535 bytes. A transfer is sent in messages that each have room
+    /// for their TSIG record. Another reply without room, and an answer without room in a message of its own, is
+    /// replaced by the question with ServFail.
     ///
     /// Where the signature is bad, no zone is asked. The reply is NOTAUTH with BADKEY, BADSIG, BADTIME or BADTRUNC in
     /// its TSIG record; of these BADTIME, with the server's time, and BADTRUNC are signed (section 5.2). It is FORMERR,
-    /// without a TSIG record, where the TSIG record has no form, and a header alone that says FORMERR where a record
-    /// stands behind the TSIG record, or a TSIG record in another section (section 5.1). Any other message that cannot
-    /// be read is unreadable, and has no reply.
+    /// without a TSIG record, if the TSIG record has no form. It is a header that says FORMERR if the message cannot be
+    /// read, as with a record after the TSIG record, or a TSIG record in another section (section 5.1).
     ///
     /// Where there are keys, an unsigned message that counts a record, as an OPT record, is read once more than by
     /// [`Server::serve`]. Here each byte of a signed one, and of each reply to it, is hashed once; handlers that take

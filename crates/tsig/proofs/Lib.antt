@@ -1,6 +1,7 @@
 mod Appending
 mod HashLengths
 mod Judgements
+mod KeyLines
 mod Replies
 mod Rooms
 mod SameBytes

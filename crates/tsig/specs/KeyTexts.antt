@@ -8,7 +8,7 @@ use Rattle.tsig.specs.Hmac.{algorithm_label}
 use Rattle.tsig.specs.declared.keys.Key.{Key}
 
 -- The text is a key as `dig -y` takes it, `ALGORITHM:NAME:SECRET`. The name is fully qualified whether or not it ends
--- in a dot.
+-- in a dot. It takes each MAC that RFC 8945 allows.
 pub record IsKeyText (text : List ℕ) (key : Key) : Type 0 where
   pub name : List ℕ
   pub secret : List ℕ
@@ -17,6 +17,7 @@ pub record IsKeyText (text : List ℕ) (key : Key) : Type 0 where
   pub is_name : IsNameText name named
   pub qualified : key.name ≡ record named { is_fqdn = true }
   pub decoded : decode_of standard secret ≡ Ok key.secret
+  pub any_mac : key.shortest ≡ 0
 
 -- A key that can be used: its name is fully qualified, and it has a secret.
 pub record IsUsable (key : Key) : Type 0 where

@@ -3,6 +3,7 @@ pub mod Digest
 pub mod Hmac
 pub mod Judging
 pub mod JudgingSteps
+pub mod KeyFiles
 pub mod KeyTexts
 pub mod Keys
 pub mod Pads

@@ -5,4 +5,4 @@ mod policy;
 mod rule_text;
 
 pub use policy::{Policy, Rule, Scope};
-pub use rule_text::{RuleTextError, read_grant, read_rule};
+pub use rule_text::{RuleTextError, read_rule};

@@ -1,3 +1,4 @@
+pub mod HexLines
 pub mod representation
 pub mod rr
 pub mod serialize

@@ -2,5 +2,6 @@
 #![tactic(auto)]
 
 pub mod error;
+pub mod hex_lines;
 pub mod rr;
 pub mod values;

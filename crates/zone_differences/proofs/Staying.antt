@@ -39,10 +39,10 @@ module _ (identity : Identity) where
     none_of_name [] h = refl
     none_of_name (r ∷ rs) h = ap (λ b. cond b (r ∷ of_name q.name rs) (of_name q.name rs)) (none_named r h.0) ∙ none_of_name rs h.1
 
-    folded : (o : DomainName) (rs z : Records) → AllByRecursion (λ r. are_among es r.name ≡ true) rs → ttl_at (after_updates o z rs) q ≡ ttl_at z q
+    folded : (o : DomainName) (rs z : Records) → AllByRecursion (λ r. are_among es r.name ≡ true) rs → ttl_at (after_updates true o z rs) q ≡ ttl_at z q
     folded o rs z h =
-        of_own (after_updates o z rs) q
-        ∙ ap (λ (l : Records). ttl_at l q) (fold_by_name o q.name rs z ∙ ap (λ (us : Records). after_updates o (of_name q.name z) us) (none_of_name rs h))
+        of_own (after_updates true o z rs) q
+        ∙ ap (λ (l : Records). ttl_at l q) (fold_by_name true o q.name rs z ∙ ap (λ (us : Records). after_updates true o (of_name q.name z) us) (none_of_name rs h))
         ∙ sym (of_own z q)
 
     off_apex : (o : DomainName) → are_among es o ≡ true → is_at o q ≡ false
@@ -78,20 +78,20 @@ module _ (identity : Identity) where
     abbrev Stays : Type 0
     Stays = (q : Resource) → are_among es q.name ≡ false → ttl_at z q ≡ ttl_at records q
 
-    by_serial : (b changed : Bool) → IsOutcome (cond b (Ok (map (incremented o) (after_updates o z rs), true)) (Err 2)) records changed → Stays
+    by_serial : (b changed : Bool) → IsOutcome (cond b (Ok (map (incremented o) (after_updates true o z rs), true)) (Err 2)) records changed → Stays
     by_serial true changed is q apart =
-        sym (is.0 q ∙ incremented_kept o q (off_apex es q apart o there) (after_updates o z rs) ∙ folded es q apart o rs z spoken)
+        sym (is.0 q ∙ incremented_kept o q (off_apex es q apart o there) (after_updates true o z rs) ∙ folded es q apart o rs z spoken)
     by_serial false changed is q apart = absurd is
 
-    by_change : (b changed : Bool) → IsOutcome (cond b (with_next_serial o (after_updates o z rs)) (Ok (z, false))) records changed → Stays
-    by_change true changed is q apart = by_serial (list_any (is_apex_soa o) (after_updates o z rs)) changed is q apart
+    by_change : (b changed : Bool) → IsOutcome (cond b (with_next_serial o (after_updates true o z rs)) (Ok (z, false))) records changed → Stays
+    by_change true changed is q apart = by_serial (list_any (is_apex_soa o) (after_updates true o z rs)) changed is q apart
     by_change false changed is q apart = sym (is.0 q)
 
   pub stays : (old new : MemoryZone) (updates : Records) (es : List NameRecords) → are_among es old.origin ≡ true → AllByRecursion (λ r. are_among es r.name ≡ true) updates → IsChangedBy updates old new
       → (q : Resource) → are_among es q.name ≡ false → ttl_at (zone_records old.sets) q ≡ ttl_at (zone_records new.sets) q
   stays old new updates es there spoken made =
       let z : Records = zone_records old.sets in
-      by_change old.origin es updates z (zone_records new.sets) there spoken (any_change old.origin z updates) true made.0
+      by_change old.origin es updates z (zone_records new.sets) there spoken (any_change true old.origin z updates) true made.0
 
 pub origin_kept : (old new : MemoryZone) (updates : Records) → IsChangedBy updates old new → new.origin ≡ old.origin
 origin_kept old new updates made = ap (λ (m : MemoryZone). m.origin) made.1

@@ -45,9 +45,10 @@ went origin zone e = filter (is_changed origin e.records (of_name e.name zone)) 
 abbrev pub came : DomainName → List (Record RData) → NameRecords → List (Record RData)
 came origin zone e = filter (is_changed origin e.records (of_name e.name zone)) (of_name e.name zone)
 
--- These records of an update section were done to the zone, and changed it (RFC 2136 sections 3.4.2 and 3.6).
+-- These records of an update section were done to the zone by the RFCs, and changed it (RFC 2136 sections 3.4.2 and
+-- 3.6).
 abbrev pub IsChangedBy : List (Record RData) → MemoryZone → MemoryZone → Type 0
-IsChangedBy updates old new = Updates (applied old.origin (zone_records old.sets) updates true) (Ok true) old new
+IsChangedBy updates old new = Updates (applied true old.origin (zone_records old.sets) updates true) (Ok true) old new
 
 -- An update may have left the zone `new`. Of each zone that it was made in, where that stood there before, the
 -- difference leads from that zone to this one.

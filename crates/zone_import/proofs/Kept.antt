@@ -5,10 +5,10 @@ use Rattle.wire_messages.specs.declared.rr.record.Record.{Record}
 use Rattle.wire_messages.specs.declared.rr.rr_key.RrKey.{RrKey}
 use Rattle.hickory_base.specs.zone_store.ZoneAnswers.{MemoryZone}
 use Rattle.sqlite_disk.specs.declared.Disk.{Ghosts as DiskGhosts}
-use Rattle.update_journal.specs.Frames.{IsBeforeOrAfter}
-use Rattle.update_journal.specs.JournalState.{JournalState}
-use Rattle.update_journal.specs.Settled.{IsSettled}
-use Rattle.update_journal.proofs.Steps.{rests}
+use Rattle.journal.specs.Frames.{IsBeforeOrAfter}
+use Rattle.journal.specs.JournalState.{JournalState}
+use Rattle.journal.specs.Settled.{IsSettled}
+use Rattle.journal.proofs.Steps.{rests}
 use Rattle.durable_updates.specs.Redone.{Redone}
 use Rattle.durable_updates.proofs.Made.{recalls_more, redone_others}
 use Rattle.zone_import.specs.Imports.{AreSame, Keeps, LeavesEither}

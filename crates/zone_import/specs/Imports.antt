@@ -8,9 +8,9 @@ use Rattle.hickory_base.specs.zone_store.ZoneAnswers.{MemoryZone, soa_serial, zo
 use Rattle.hickory_base.specs.zone_store.ZoneSets.{zone_records}
 use Rattle.hickory_store.specs.updates.Identity.{SameZone}
 use Rattle.sqlite_disk.specs.declared.Disk.{Ghosts as DiskGhosts}
-use Rattle.update_journal.specs.Frames.{StandsFor}
-use Rattle.update_journal.specs.JournalState.{JournalState}
-use Rattle.update_journal.specs.Settled.{IsSettled}
+use Rattle.journal.specs.Frames.{StandsFor}
+use Rattle.journal.specs.JournalState.{JournalState}
+use Rattle.journal.specs.Settled.{IsSettled}
 use Rattle.durable_updates.specs.Snapshots.{Recalls}
 
 -- data with this serial, where they are those of an SOA (RFC 1035 section 3.3.13)

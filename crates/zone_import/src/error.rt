@@ -4,9 +4,9 @@ ghost use Rattle.std.specs.Prelude.{◌≢◌};
 ghost use Rattle.zone_import.specs.declared.error.ImportError.TheVariants as import_error;
 
 use durable_updates::RedoError;
+use journal::JournalError;
 use std::alloc::{AllocError, AllocFailed};
 use thiserror::Error;
-use update_journal::JournalError;
 
 /// Why no requests are made that turn a zone into another one.
 #[derive(Clone, Copy, Debug, PartialEq, Eq)]

@@ -2,7 +2,7 @@
 
 ghost use Rattle.std.specs.Prelude.{◌≡◌, ◌⊎◌, ℕ, List, Err, IfErr, IfOk, OnErr, OnOk, false, length, true};
 ghost use Rattle.hickory_base.specs.zone_store.ZoneAnswers.{MemoryZone};
-ghost use Rattle.update_journal.specs.Read.{contents};
+ghost use Rattle.journal.specs.Read.{contents};
 ghost use Rattle.durable_updates.specs.Redone.{Redone};
 ghost use Rattle.zone_import.specs.Imports.{AreSame, Keeps, LeavesEither, is_above, serial_of};
 ghost use Rattle.zone_import.specs.declared.error.ImportError.TheVariants as import_error;
@@ -18,9 +18,9 @@ use hickory_base::zone_store::serials::is_greater;
 use hickory_base::zone_store::{InMemoryZoneHandler, ZoneHandler};
 use hickory_server::server::NoKeys;
 use hickory_store::updates::{UpdatableZoneHandler, Verifier};
+use journal::Journal;
 use sqlite_disk::Disk;
 use std::alloc::Global;
-use update_journal::Journal;
 
 /// What was done to turn a zone into another one.
 #[derive(Clone, Copy, Debug, PartialEq, Eq)]

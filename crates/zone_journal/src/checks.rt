@@ -2,10 +2,10 @@
 
 use crate::fault::Fault;
 use hickory_wire::LowerName;
+use journal::{Ending, generation};
 use journal_entries::{Part, behind, entry_of, may_stand, zone_of};
 use std::alloc::Global;
 use std::io;
-use update_journal::{Ending, generation};
 
 /// The zone of the first entry that is an update.
 fn first_zone(alloc: Global, entries: &[Vec<u8>]) -> Result<Option<LowerName>, Fault> {

@@ -3,9 +3,9 @@
 use crate::fault::{Fault, fault_of_file};
 use crate::zone::Zone;
 use durable_updates::{CompactError, JournalledZone, OpenError, RedoError, SnapshotError};
+use journal::{JournalError, RecoverError};
 use sqlite_disk::Files;
 use sqlite_std_file::{OpenError as FilesError, Unknown, open};
-use update_journal::{JournalError, RecoverError};
 
 /// Why the two files of a journal are not opened.
 pub fn fault_of_files(error: &FilesError) -> Fault {

@@ -7,11 +7,11 @@ use durable_updates::JournalledZone;
 use hickory_base::zone_store::InMemoryZoneHandler;
 use hickory_base::zone_store::serials::is_greater;
 use hickory_server::store::file::RecordsError;
+use journal::Journal;
 use sqlite_disk::{Disk, Files};
 use sqlite_std_file::{Unknown, open};
 use std::alloc::Global;
 use std::io;
-use update_journal::Journal;
 use zone_import::{ImportError, Imported, import, is_same_zone, with_serial};
 
 /// Why a zone is not turned into one of this serial, where it has another one.

@@ -14,7 +14,7 @@
 #![tactic(auto)]
 
 ghost use Rattle.std.specs.Prelude.{IfOk};
-ghost use Rattle.update_journal.specs.JournalFile.{IsJournal};
+ghost use Rattle.journal.specs.JournalFile.{IsJournal};
 
 mod checks;
 mod compaction;
@@ -38,12 +38,12 @@ use crate::zone_file::read_zone_of;
 use clap::error::ErrorKind;
 use clap::{Arg, ArgAction, ArgMatches, Command, Error};
 use hickory_wire::{Name, NameError};
+use journal::{ending_at, generation, is_journal, read_entries};
 use journal_entries::{Entry, Part, behind, entry_of};
 use std::alloc::{AllocError, Global};
 use std::process::ExitCode;
 use std::rt::{Env, Files};
 use std::{env, fs, io};
-use update_journal::{ending_at, generation, is_journal, read_entries};
 
 /// The version of this program.
 const VERSION: &str = "0.1.0";

@@ -7,7 +7,7 @@ use Rattle.std.proofs.lemmas.List.Elements.{Contains-get_or}
 use Rattle.wire_names.specs.rr.domain.DomainName.{DomainName}
 use Rattle.wire_names.specs.declared.error.ProtoError.{ProtoError}
 use Rattle.wire_messages.specs.declared.protocol.Protocol.{Protocol}
-use Rattle.access_control.specs.Access.{AccessSets, IsAllowed, IsLongestMatch, Network, address_of, canonical}
+use Rattle.server_limits.specs.Access.{AccessSets, IsAllowed, IsLongestMatch, Network, address_of, canonical}
 use Rattle.hickory_base.specs.requests.RequestReading.{IsFaultOf}
 use Rattle.hickory_catalog.specs.requests.Server.{Server}
 use Rattle.hickory_server.specs.server.Serving.{LeavesUnserved, Run, RunFailed, Step, denied, handled, next, none, unreadable}
@@ -16,7 +16,7 @@ use Rattle.hickory_server.specs.declared.server.serve.Outcome.{Outcome}
 use Rattle.hickory_server.specs.declared.server.serve.Outcome.TheVariants.{Replies}
 use Rattle.hickory_server.specs.declared.server.serve.ServeError.{ServeError}
 use Rattle.hickory_server.specs.declared.server.serve.ServeError.TheVariants as serve_error
-use Rattle.hex_lines.specs.Lines.{hex_lines}
+use Rattle.wire_names.specs.HexLines.{hex_lines}
 use Rattle.zone_reply.specs.Answers.{Becomes, Fails, IsIncoming, IsOpen, IsRefusedMessage}
 use Rattle.zone_reply.specs.declared.command.Refusal.{Refusal}
 use Rattle.zone_reply.specs.declared.command.Refusal.TheVariants.{Memory, Unreadable}

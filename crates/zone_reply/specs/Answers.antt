@@ -5,12 +5,12 @@ use Rattle.std.specs.Io.BufRead.{first_line}
 use Rattle.std.specs.declared.net.SocketAddr.{SocketAddr}
 use Rattle.std.specs.declared.net.SocketAddr.TheVariants.{V4}
 use Rattle.hex.specs.Hex.{decode_of}
-use Rattle.hex_lines.specs.Lines.{hex_lines}
+use Rattle.wire_names.specs.HexLines.{hex_lines}
 use Rattle.wire_names.specs.rr.domain.DomainName.{DomainName}
 use Rattle.wire_names.specs.declared.error.ProtoError.{ProtoError}
 use Rattle.wire_messages.specs.declared.protocol.Protocol.{Protocol}
 use Rattle.hickory_base.specs.requests.RequestReading.{IsFaultOf}
-use Rattle.access_control.specs.Access.{AccessSets, Network}
+use Rattle.server_limits.specs.Access.{AccessSets, Network}
 use Rattle.hickory_catalog.specs.requests.Server.{Server}
 use Rattle.hickory_server.specs.server.Serving.{LeavesUnserved, Step}
 use Rattle.hickory_server.specs.declared.server.serve.Incoming.{Incoming}

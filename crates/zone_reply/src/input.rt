@@ -6,9 +6,9 @@ ghost use Rattle.hex.specs.Hex.{decode_of};
 ghost use Rattle.zone_reply.specs.Answers.{IsFirstMessage, IsRefusedInput};
 
 use crate::command::Refusal;
-use hex_lines::bytes_of;
 use std::alloc::Global;
 use std::io::{self, BufRead, BufReader, Read};
+use wire_names::hex_lines::bytes_of;
 
 /// Takes the last byte off a line where it is this one; whether it was.
 fn pop_byte(line: &mut Vec<u8>, byte: u8) -> bool

@@ -1,7 +1,7 @@
 //! From arguments and an input to a line of output and a status.
 
 ghost use Rattle.std.specs.Prelude.{◌≡◌, ◌∷◌, ◌⊎◌, [], ℕ, List, Result, IfOk, IfErr, map, string_bytes};
-ghost use Rattle.hex_lines.specs.Lines.{hex_lines};
+ghost use Rattle.wire_names.specs.HexLines.{hex_lines};
 ghost use Rattle.hickory_catalog.specs.requests.Server.{server_of};
 ghost use Rattle.hickory_server.specs.declared.server.serve.Outcome.{Outcome};
 ghost use Rattle.hickory_server.specs.declared.server.serve.Outcome.TheVariants.{Replies};
@@ -12,7 +12,6 @@ ghost use Rattle.zone_reply.specs.declared.command.Refusal.TheVariants.{Memory, 
 
 use crate::command::{Command, Refusal, command_of, help_lines, print, version_line};
 use crate::input::message;
-use hex_lines::lines_of;
 use hickory_server::access::AccessControl;
 use hickory_server::proto::Protocol;
 use hickory_server::server::serve::{Incoming, Outcome, serve_all};
@@ -20,6 +19,7 @@ use hickory_server::zone_handler::{Catalog, ReplySigner, ZoneHandler};
 use std::alloc::Global;
 use std::io::{Read, Write};
 use std::net::{IpAddr, Ipv4Addr, SocketAddr};
+use wire_names::hex_lines::lines_of;
 
 /// The message of these bytes as it came: from 127.0.0.1, port 53, over this transport, at the moment 0.
 fn incoming(protocol: Protocol, bytes: Vec<u8>) -> Incoming

@@ -68,27 +68,27 @@ group_of (Some input) between new line lines (within, line_is, left) put =
 
 -- What became of the lines so far, where the input is known.
 abbrev pub LinesSoFar : {H : Type 0} → (List (DomainName × List H) → List (DomainName × List H) → Type 0) → (List (DomainName × List H) → List (DomainName × List H) → Type 0)
-    → (List (DomainName × List H) → List (DomainName × List H) → Type 0) → KeyedServer H → Option (List ℕ) → Option (List ℕ) → Option (List ℕ) → Option (List ℕ) → List (DomainName × List H) → Type 0
-LinesSoFar begins settles tends service old new held kept zones = IfSome old (λ input. (lines : List (List ℕ)) × (written : List ℕ) × (rest : List ℕ) × (new ≡ Some rest)
-    × AreLines input lines rest × LinesServed begins settles tends service lines written zones × Appends held kept written)
+    → KeyedServer H → Option (List ℕ) → Option (List ℕ) → Option (List ℕ) → Option (List ℕ) → List (DomainName × List H) → Type 0
+LinesSoFar begins settles service old new held kept zones = IfSome old (λ input. (lines : List (List ℕ)) × (written : List ℕ) × (rest : List ℕ) × (new ≡ Some rest)
+    × AreLines input lines rest × LinesServed begins settles service lines written zones × Appends held kept written)
 
-module _ {H : Type 0} (begins settles tends : List (DomainName × List H) → List (DomainName × List H) → Type 0) where
-  pub so_far_none : (service : KeyedServer H) (old held : Option (List ℕ)) → LinesSoFar begins settles tends service old old held held service.server.zones
+module _ {H : Type 0} (begins settles : List (DomainName × List H) → List (DomainName × List H) → Type 0) where
+  pub so_far_none : (service : KeyedServer H) (old held : Option (List ℕ)) → LinesSoFar begins settles service old old held held service.server.zones
   so_far_none service None held = tt
   so_far_none service (Some input) held = ([], [], input, refl, refl, none, Appends-nil held)
 
   module _ {S : Type 0} (handler : Ghosts H) (signature_for : S → Signer) (first middle last : SignedServer S H) (stays : Stays first middle)
       (old between new held kept after : Option (List ℕ)) where
-    -- One more group is served, over the zones as those before it left them, and the zones are tended behind it.
-    pub so_far_more : (group : List (List ℕ)) (back : List ℕ) (behind : List (DomainName × List H)) → (group ≡ [] → ⊥)
-        → LinesSoFar begins settles tends (keyed_of handler signature_for first) old between held kept middle.server.catalog.zones
+    -- One more group is served, over the zones as those before it left them.
+    pub so_far_more : (group : List (List ℕ)) (back : List ℕ) → (group ≡ [] → ⊥)
+        → LinesSoFar begins settles (keyed_of handler signature_for first) old between held kept middle.server.catalog.zones
         → IfSome between (λ input. NextLines input group new)
-        → GroupServed begins settles (keyed_of handler signature_for middle) group back behind → tends behind last.server.catalog.zones → Appends kept after back
-        → LinesSoFar begins settles tends (keyed_of handler signature_for first) old new held after last.server.catalog.zones
-    so_far_more [] back behind some so_far next served tended appends = absurd (some refl)
-    so_far_more (line ∷ group) back behind some so_far next served tended appends = by_input old so_far where
-      by_input : (old : Option (List ℕ)) → LinesSoFar begins settles tends (keyed_of handler signature_for first) old between held kept middle.server.catalog.zones
-          → LinesSoFar begins settles tends (keyed_of handler signature_for first) old new held after last.server.catalog.zones
+        → GroupServed begins settles (keyed_of handler signature_for middle) group back last.server.catalog.zones → Appends kept after back
+        → LinesSoFar begins settles (keyed_of handler signature_for first) old new held after last.server.catalog.zones
+    so_far_more [] back some so_far next served appends = absurd (some refl)
+    so_far_more (line ∷ group) back some so_far next served appends = by_input old so_far where
+      by_input : (old : Option (List ℕ)) → LinesSoFar begins settles (keyed_of handler signature_for first) old between held kept middle.server.catalog.zones
+          → LinesSoFar begins settles (keyed_of handler signature_for first) old new held after last.server.catalog.zones
       by_input None before = tt
       by_input (Some input) (lines, written, rest, is, are, before, holds) =
           let (left, those, at) = rw is at next in (
@@ -98,19 +98,19 @@ module _ {H : Type 0} (begins settles tends : List (DomainName × List H) → Li
             at,
             lines_behind input lines rest (line ∷ group) left are those,
             more lines (line ∷ group) written back before
-                (subst (λ (s : KeyedServer H). GroupServed begins settles s (line ∷ group) back behind) (same_service handler signature_for first middle stays) served) tended,
+                (subst (λ (s : KeyedServer H). GroupServed begins settles s (line ∷ group) back last.server.catalog.zones) (same_service handler signature_for first middle stays) served),
             Appends-trans held kept after written back holds appends,
           )
 
     -- At the end of the input there is no more.
     pub so_far_all : (group : List (List ℕ)) → group ≡ []
-        → LinesSoFar begins settles tends (keyed_of handler signature_for first) old between held kept middle.server.catalog.zones → IfSome between (λ input. NextLines input group new)
+        → LinesSoFar begins settles (keyed_of handler signature_for first) old between held kept middle.server.catalog.zones → IfSome between (λ input. NextLines input group new)
         → IfSome old (λ input. (lines : List (List ℕ)) × (written : List ℕ) × AreLines input lines []
-        × LinesServed begins settles tends (keyed_of handler signature_for first) lines written middle.server.catalog.zones × Appends held kept written)
+        × LinesServed begins settles (keyed_of handler signature_for first) lines written middle.server.catalog.zones × Appends held kept written)
     so_far_all group empty so_far next = by_input old so_far where
-      by_input : (old : Option (List ℕ)) → LinesSoFar begins settles tends (keyed_of handler signature_for first) old between held kept middle.server.catalog.zones
+      by_input : (old : Option (List ℕ)) → LinesSoFar begins settles (keyed_of handler signature_for first) old between held kept middle.server.catalog.zones
           → IfSome old (λ input. (lines : List (List ℕ)) × (written : List ℕ) × AreLines input lines []
-          × LinesServed begins settles tends (keyed_of handler signature_for first) lines written middle.server.catalog.zones × Appends held kept written)
+          × LinesServed begins settles (keyed_of handler signature_for first) lines written middle.server.catalog.zones × Appends held kept written)
       by_input None before = tt
       by_input (Some input) (lines, written, rest, is, are, before, holds) =
           let ended = rw (is, empty) at next in

@@ -10,7 +10,7 @@ use Rattle.zone_serve.specs.Served.{AreLines, LineServed}
 abbrev pub contents : List (Vec ℕ Global) → List (List ℕ)
 contents lines = map (λ (line : Vec ℕ Global). line.items) lines
 
--- What a reader gives next: lines that stand at its front, or none, at its end.
+-- What a reader gives next: lines that are at its front, or none, at its end.
 abbrev pub NextLines : List ℕ → List (List ℕ) → Option (List ℕ) → Type 0
 NextLines input [] left = input ≡ []
 NextLines input (line ∷ lines) left = (rest : List ℕ) × AreLines input (line ∷ lines) rest × (left ≡ Some rest)
@@ -30,18 +30,17 @@ module _ {H : Type 0} (begins : List (DomainName × List H) → List (DomainName
 
 module _ {H : Type 0} (begins settles : List (DomainName × List H) → List (DomainName × List H) → Type 0) where
   -- What becomes of a group: its lines are served one after the other; or zones hold their updates first, the lines are
-  -- served, and the zones settle what they hold. (That its answers are written behind that shows the call that makes
+  -- served, and the zones settle what they hold. (That its answers are written after that shows the call that makes
   -- them, which has no writer.)
   pub data GroupServed (service : KeyedServer H) (lines : List (List ℕ)) (written : List ℕ) : List (DomainName × List H) → Type 0 where
     as_lines : {zones : List (DomainName × List H)} → EachServed service lines written zones → GroupServed service lines written zones
     as_one : {held ahead zones : List (DomainName × List H)} → begins service.server.zones held → EachServed (over service held) lines written ahead → settles ahead zones
         → GroupServed service lines written zones
 
-module _ {H : Type 0} (begins settles tends : List (DomainName × List H) → List (DomainName × List H) → Type 0) where
-  -- What becomes of lines, group by group, each over the zones as those before it left them, which are tended behind
-  -- each.
+module _ {H : Type 0} (begins settles : List (DomainName × List H) → List (DomainName × List H) → Type 0) where
+  -- What becomes of lines, group by group, each over the zones as those before it left them.
   pub data LinesServed (service : KeyedServer H) : List (List ℕ) → List ℕ → List (DomainName × List H) → Type 0 where
     none : LinesServed service [] [] service.server.zones
-    more : (lines group : List (List ℕ)) (written back : List ℕ) {between behind zones : List (DomainName × List H)} → LinesServed service lines written between
-        → GroupServed begins settles (over service between) group back behind → tends behind zones
+    more : (lines group : List (List ℕ)) (written back : List ℕ) {between zones : List (DomainName × List H)} → LinesServed service lines written between
+        → GroupServed begins settles (over service between) group back zones
         → LinesServed service (lines ++ group) (written ++ back) zones

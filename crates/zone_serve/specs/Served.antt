@@ -44,8 +44,8 @@ pub record DatagramServed {H : Type 0} (service : KeyedServer H) (address : IpAd
   pub answered : BecomesOf service message (Replies replies) zones
   pub written_is : written ≡ concat replies
 
--- What becomes of the messages of a stream: each is read behind its length, after those before it, and answered over
--- the zones as they left them; its replies are written behind their lengths, after theirs.
+-- What becomes of the messages of a stream: each is read after its length, after those before it, and answered over
+-- the zones as they left them; its replies are written after their lengths, after theirs.
 pub data StreamServed {H : Type 0} (service : KeyedServer H) (address : IpAddr) : List ℕ → List ℕ → List (DomainName × List H) → Type 0 where
   none : StreamServed service address [] [] service.server.zones
   more : (read written frame frames : List ℕ) {bytes : List ℕ} {replies : List (List ℕ)} {message : Incoming} {between zones : List (DomainName × List H)}
@@ -61,14 +61,14 @@ NextServed service address read written zones true = (bytes : List ℕ) × IsFra
     × (replies : List (List ℕ)) × BecomesOf service message (Replies replies) zones × AreFrames written replies
 NextServed service address read written zones false = (read ≡ []) × (written ≡ []) × (zones ≡ service.server.zones)
 
--- What becomes of a line: what becomes of the message that it tells is written as lines, or `bad line`, where it tells
+-- What becomes of a line: what becomes of the message that it has is written as lines, or `bad line`, if it has
 -- none.
 abbrev pub LineServed : {H : Type 0} → KeyedServer H → List ℕ → List ℕ → List (DomainName × List H) → Bool → Type 0
 LineServed service line written zones true = (told : LineMessage) × IsLineOf line told × (message : Incoming) × IsFrom told.protocol told.address told.bytes.items message
     × (answer : Answer) × BecomesOf service message answer zones × (written ≡ answer_lines answer)
 LineServed service line written zones false = (written ≡ codes "bad line\n") × (zones ≡ service.server.zones)
 
--- The lines of an input, each with its newline, LF, which the last may lack, and what stands behind them.
+-- The lines of an input, each with its newline, LF, which the last may lack, and what comes after them.
 abbrev pub AreLines : List ℕ → List (List ℕ) → List ℕ → Type 0
 AreLines input [] rest = rest ≡ input
 AreLines input (line ∷ lines) rest = (0 < length input) × (line ≡ take_through 10 input) × AreLines (drop_through 10 input) lines rest

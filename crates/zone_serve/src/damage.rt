@@ -1,12 +1,12 @@
 //! Where a journal is damaged, or is none.
 
 use crate::files::bytes_of;
-use hickory_server::proto::{LowerName, Name};
+use hickory_server::proto::LowerName;
+use journal::{is_journal, is_newer, read_entries};
 use journal_entries::{EntryPlace, first_wrong};
 use std::alloc::Global;
 use std::fmt;
 use std::rt::Files;
-use update_journal::{is_journal, is_newer, read_entries};
 
 /// Where in its two files a journal has an entry that is no update of the zone.
 #[derive(Clone, Copy, Debug, PartialEq, Eq)]
@@ -34,25 +34,24 @@ fn entries_of<R: Files + Alloc<A = Global>>(rt: &R, file: &str) -> Option<Vec<Ve
     Some(found.entries)
 }
 
-/// Where the journal at a path is damaged: the first entry, of the file that counts, which may not stand in the journal
+/// Where the journal at a path is damaged: the first entry, of the file that counts, which may not be in the journal
 /// of this zone. It is looked for as far as files and memory give.
 pub fn find_damage<R: Files + Alloc<A = Global>>(
     rt: &R,
     path: &str,
-    apex: &Name,
+    zone: &LowerName,
 ) -> Option<Damage> {
     let alloc = rt.alloc();
-    let zone = LowerName::new(alloc, apex).ok()?;
     let beside = format!(in alloc; "{path}-wal").ok()?;
     let first = entries_of(rt, path)?;
     let second = entries_of(rt, beside.as_str())?;
     let is_second = is_newer(&second, &first);
     let counting = if is_second { &second } else { &first };
-    let entry = first_wrong(alloc, counting, &zone).ok()??;
+    let entry = first_wrong(alloc, counting, zone).ok()??;
     Some(Damage { entry, is_second })
 }
 
-/// Whether what stands at a path is no journal's file, as far as it can be read: of the two files of a journal that is
+/// Whether the file at a path is no journal's, as far as it can be read: of the two files of a journal that is
 /// refused it is this one, or else the one beside it.
 pub fn is_none_at<R: Files + Alloc<A = Global>>(rt: &R, path: &str) -> bool {
     match bytes_of(rt, path) {

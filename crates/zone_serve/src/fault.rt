@@ -4,32 +4,32 @@ use crate::frames::StreamFault;
 use crate::journals::JournalFileFault;
 use crate::keys::KeyFileFault;
 use crate::lists::ListFault;
-use crate::zones::ZoneFileFault;
+use crate::zone_fault::ZoneFileFault;
 use served_keys::names::KeyNameFault;
-use served_updates::grants::GrantFault;
+use served_zones::grants::GrantFault;
 use std::alloc::{AllocError, AllocFailed};
 use std::io;
 use thiserror::Error;
 
-/// Why the program ends before its input does. A file is told by its place among those of its option.
+/// Why the program ends before its input does. A file is named by its place among those of its option.
 #[derive(Clone, Copy, Debug, PartialEq, Eq, Error)]
 pub enum Fault {
     /// An argument is no text.
     #[error("an argument is not UTF-8")]
     NotUtf8,
-    /// What stands behind `--zone`, before the `=`, is no name.
+    /// The text before the `=` of `--zone` is no name.
     #[error("argument {place}: not the name of a zone")]
     ZoneName {
         /// Which argument it is; the first is 1.
         place: usize,
     },
-    /// What stands behind `--nsid` has more bytes than an option holds (RFC 6891 section 6.1.2).
+    /// The value of `--nsid` has more bytes than an option holds (RFC 6891 section 6.1.2).
     #[error("argument {place}: the identifier is too long")]
     LongIdentifier {
         /// Which argument it is; the first is 1.
         place: usize,
     },
-    /// What stands behind `--allow-transfer-key` is the name of no key.
+    /// The value of `--allow-transfer-key` is the name of no key.
     #[error("argument {place}: {fault}")]
     TransferKey {
         /// Which argument it is; the first is 1.
@@ -37,7 +37,7 @@ pub enum Fault {
         /// What is wrong with it.
         fault: KeyNameFault,
     },
-    /// What stands behind `--allow-update` is no rule.
+    /// The value of `--allow-update` is no rule.
     #[error("argument {place}: {fault}")]
     Update {
         /// Which argument it is; the first is 1.
@@ -45,13 +45,13 @@ pub enum Fault {
         /// What is wrong with it.
         fault: GrantFault,
     },
-    /// What stands behind `--allow-update`, before the `=`, is the name of no zone that is served.
+    /// The text before the `=` of `--allow-update` is the name of no zone that is served.
     #[error("argument {place}: there is no --zone of this name")]
     UpdateZone {
         /// Which argument it is; the first is 1.
         place: usize,
     },
-    /// What stands behind `--journal`, before the `=`, is the name of no zone that takes updates.
+    /// The text before the `=` of `--journal` is the name of no zone that takes updates.
     #[error("argument {place}: there is no --allow-update of this zone")]
     JournalZone {
         /// Which argument it is; the first is 1.
@@ -77,13 +77,7 @@ pub enum Fault {
         /// Which journal it is.
         place: usize,
     },
-    /// A zone that takes updates has a zone right below it.
-    #[error("the zone takes updates, so that no zone right below it can be served beside it")]
-    ZoneBelow {
-        /// Which file of a zone it is.
-        place: usize,
-    },
-    /// The environment tells an address of the peer that is none.
+    /// The environment has an address of the peer that is none.
     #[error("the environment tells a peer's address that is none")]
     Peer,
     /// Two files are given for one zone.
@@ -123,7 +117,7 @@ pub enum Fault {
     /// The bytes of a message begin with none (RFC 1035 section 4.1).
     #[error("unreadable: the bytes begin with no message")]
     Unreadable,
-    /// The input gives no message where one is wanted.
+    /// The input gives no message although one is wanted.
     #[error("{0}")]
     Stream(StreamFault),
     /// A line is no transport, address and message.
@@ -135,7 +129,7 @@ pub enum Fault {
     /// Memory was refused.
     #[error("no memory")]
     Memory,
-    /// The system tells no time.
+    /// The system gives no time.
     #[error("the system tells no time")]
     Clock,
     /// The input cannot be read.
@@ -156,26 +150,25 @@ pub enum Ended {
     Response,
     /// The bytes of a message begin with none (RFC 1035 section 4.1).
     Unreadable,
-    /// The input gives no message where one is wanted.
+    /// The input gives no message although one is wanted.
     Stream(StreamFault),
     /// Memory was refused.
     Memory,
-    /// The system tells no time.
+    /// The system gives no time.
     Clock,
     /// The output takes nothing.
     Write,
 }
 
 impl Fault {
-    /// The status that tells it.
+    /// Its exit status.
     pub fn status(self) -> u8 {
         match self {
             Fault::Denied | Fault::Response | Fault::Unreadable | Fault::Line { .. } => 1,
             Fault::Stream(StreamFault::Partial | StreamFault::TooLong) => 1,
             Fault::NotUtf8 | Fault::ZoneName { .. } | Fault::LongIdentifier { .. } | Fault::Peer =>
                 2,
-            Fault::TransferKey { .. } | Fault::Update { .. } => 2,
-            Fault::UpdateZone { .. } | Fault::ZoneBelow { .. } => 2,
+            Fault::TransferKey { .. } | Fault::Update { .. } | Fault::UpdateZone { .. } => 2,
             Fault::JournalZone { .. } | Fault::JournalTwice { .. } => 2,
             Fault::Memory | Fault::Stream(StreamFault::Memory) => 3,
             Fault::Clock | Fault::Read | Fault::Write => 4,

@@ -1,42 +1,43 @@
 //! Files as they are read, and why they cannot be.
 
+use hickory_server::zone_text::{FileOpener, FileRefusal};
 use std::alloc::Global;
 use std::rt::Files;
-use std::{fs, io};
-use thiserror::Error;
+use std::{fs, io, str};
 
-/// Why a file cannot be read.
-#[derive(Clone, Copy, Debug, PartialEq, Eq, Error)]
-pub enum FileFault {
-    /// There is none of this name.
-    #[error("there is no such file")]
-    Absent,
-    /// The system does not let the program read it.
-    #[error("no permission to read the file")]
-    Forbidden,
-    /// It is a folder.
-    #[error("a folder, and no file")]
-    Folder,
-    /// The system does not say why, or says something else.
-    #[error("the file cannot be read")]
-    Other,
-    /// Memory was refused.
-    #[error("no memory")]
-    Memory,
-}
-
-/// The fault that the system tells.
-pub fn fault_of(e: &io::Error) -> FileFault {
+/// The fault that the system reports.
+pub fn fault_of(e: &io::Error) -> FileRefusal {
     match e.kind() {
-        io::ErrorKind::NotFound | io::ErrorKind::NotADirectory => FileFault::Absent,
-        io::ErrorKind::PermissionDenied => FileFault::Forbidden,
-        io::ErrorKind::IsADirectory => FileFault::Folder,
-        io::ErrorKind::OutOfMemory => FileFault::Memory,
-        _ => FileFault::Other,
+        io::ErrorKind::NotFound | io::ErrorKind::NotADirectory => FileRefusal::Absent,
+        io::ErrorKind::PermissionDenied => FileRefusal::Forbidden,
+        io::ErrorKind::IsADirectory => FileRefusal::Folder,
+        io::ErrorKind::OutOfMemory => FileRefusal::Memory,
+        _ => FileRefusal::Other,
     }
 }
 
 /// The bytes of a file.
-pub fn bytes_of<R: Files + Alloc<A = Global>>(rt: &R, file: &str) -> Result<Vec<u8>, FileFault> {
+pub fn bytes_of<R: Files + Alloc<A = Global>>(rt: &R, file: &str) -> Result<Vec<u8>, FileRefusal> {
     fs::read(rt, file).map_err(|e| fault_of(&e))
+}
+
+/// The files of the system by their paths. A path that does not begin with `/` starts at the working directory.
+#[derive(Drop)]
+pub struct FilesByPath<'a, R> {
+    /// The runtime.
+    pub rt: &'a R,
+}
+
+impl<R: Files + Alloc<A = Global>> FileOpener for FilesByPath<'_, R> {
+    // No contract can say what a disk holds: a file may have any bytes, and may be refused for any reason.
+    ghost opens = { λ _ _ _. Unit {0} };
+
+    ghost refuses = { λ _ _ _. Unit {0} };
+
+    fn open(&self, _alloc: Global, file: &[u8]) -> Result<Vec<u8>, FileRefusal> {
+        let Ok(path) = str::from_utf8(file) else {
+            return Err(FileRefusal::BadName);
+        };
+        bytes_of(self.rt, path)
+    }
 }

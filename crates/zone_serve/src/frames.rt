@@ -1,4 +1,4 @@
-//! Messages in a stream, each behind its length in two bytes (RFC 1035 section 4.2.2).
+//! Messages in a stream, each after its length in two bytes (RFC 1035 section 4.2.2).
 
 ghost use Rattle.std.specs.Prelude.{◌≡◌, ◌<◌, IfOk, None, OnOk, Some, if◌then◌else◌, length};
 ghost use Rattle.std.specs.Io.KnownBytes.{Consumes, IsAtEnd};
@@ -103,7 +103,7 @@ pub fn datagram<R: Read>(alloc: Global, reader: &mut R) -> Result<Vec<u8>, Strea
 }
 
 /// Puts the next message of a stream in the place of other bytes, whose memory is used again; whether there is one
-/// before the stream's end. No byte behind the message is read.
+/// before the stream's end. No byte after the message is read.
 // speed: served, an address
 pub fn next_message_in<R: Read>(reader: &mut R, message: &mut Vec<u8>) -> Result<bool, StreamFault>
     ensures { IfOk result (λ found. GivesNext (R.remaining reader.old) (R.remaining reader.new)
@@ -122,7 +122,7 @@ pub fn next_message_in<R: Read>(reader: &mut R, message: &mut Vec<u8>) -> Result
     }
 }
 
-/// Puts a message behind its length in the place of other bytes, whose memory is used again.
+/// Puts a message after its length in the place of other bytes, whose memory is used again.
 // speed: served, an address
 pub fn put_framed(framed: &mut Vec<u8>, message: &[u8]) -> Result<(), StreamFault>
     ensures { OnOk result (IsFrame framed.new.items message.now) }

@@ -45,7 +45,7 @@ pub trait Holder<S: ReplySigner, H: ZoneHandler> {
 
     ghost settles: { Self → List (DomainName × List H) → List (DomainName × List H) → Type 0 };
 
-    /// Has zones hold their updates from now on, where that is of use for these lines; whether they do.
+    /// Has zones hold their updates from now on, if that is of use for these lines; whether they do.
     fn begin(
         &self,
         alloc: Global,
@@ -61,20 +61,16 @@ pub trait Holder<S: ReplySigner, H: ZoneHandler> {
         ensures others { catalog.new ≡ record catalog.old { zones = catalog.new.zones } };
 }
 
-/// Looks after the zones of a server behind each group of lines that it served.
+/// Looks after the zones of a server after each group of lines that it served.
 pub trait Watch<S: ReplySigner, H: ZoneHandler> {
-    ghost use Rattle.std.specs.Prelude.{◌≡◌, List, OnOk};
-    ghost use Rattle.wire_names.specs.rr.domain.DomainName.{DomainName};
+    ghost use Rattle.std.specs.Prelude.{◌≡◌};
 
-    ghost tends: { List (DomainName × List H) → List (DomainName × List H) → Type 0 };
-
-    /// A group was served: does what is to be done to the zones then.
-    fn after_lines(&mut self, catalog: &mut Catalog<S, H>) -> Result<(), Fault>
-        ensures tended { OnOk result (tends catalog.old.zones catalog.new.zones) }
-        ensures others { catalog.new ≡ record catalog.old { zones = catalog.new.zones } };
+    /// A group was served: does what is to be done then. What the zones hold stays.
+    fn after_lines(&mut self, catalog: &mut Catalog<S, H>)
+        ensures { catalog.new ≡ catalog.old };
 }
 
-/// What is told of a line, and whether it tells a message.
+/// The answer to a line, and whether the line is a message.
 fn answer_line<S: ReplySigner, H: ZoneHandler>(
     alloc: Global,
     clock: &impl Clock,
@@ -94,14 +90,14 @@ fn answer_line<S: ReplySigner, H: ZoneHandler>(
     Ok((told, true))
 }
 
-/// What is told of the lines of a group, and which of them is the first that tells no message.
+/// The answers to the lines of a group, and which line is the first that is no message.
 #[derive(Drop)]
 struct Told {
     answers: Vec<u8>,
     bad: Option<usize>,
 }
 
-/// What is told of lines, one after the other.
+/// The answers to lines, one after the other.
 fn answer_each<S: ReplySigner, H: ZoneHandler>(
     alloc: Global,
     clock: &impl Clock,
@@ -124,7 +120,7 @@ fn answer_each<S: ReplySigner, H: ZoneHandler>(
     Ok(Told { answers, bad })
 }
 
-/// What is told of lines, one after the other, once what zones hold by then is written.
+/// The answers to lines, one after the other, after what zones hold by then is written.
 fn answer_held<S: ReplySigner, H: ZoneHandler, O: Holder<S, H>>(
     alloc: Global,
     clock: &impl Clock,
@@ -142,7 +138,7 @@ fn answer_held<S: ReplySigner, H: ZoneHandler, O: Holder<S, H>>(
     Ok(told)
 }
 
-/// Serves lines, each answered before the next is served: which of them is the first that tells no message.
+/// Serves lines, each answered before the next is served: which of them is the first that is no message.
 fn serve_each<S: ReplySigner, H: ZoneHandler, W: Write>(
     alloc: Global,
     clock: &impl Clock,
@@ -167,7 +163,7 @@ fn serve_each<S: ReplySigner, H: ZoneHandler, W: Write>(
     Ok(bad)
 }
 
-/// Serves the lines of a group: which of them is the first that tells no message.
+/// Serves the lines of a group: which of them is the first that is no message.
 fn serve_group<S: ReplySigner, H: ZoneHandler, O: Holder<S, H>, W: Write>(
     alloc: Global,
     clock: &impl Clock,
@@ -190,7 +186,7 @@ fn serve_group<S: ReplySigner, H: ZoneHandler, O: Holder<S, H>, W: Write>(
     Ok(told.bad)
 }
 
-/// Puts the lines that are at hand behind others.
+/// Puts the lines that are at hand after others.
 fn put_lines_at_hand<R: LinesAtHand>(
     alloc: Global,
     reader: &mut R,
@@ -212,7 +208,7 @@ fn put_lines_at_hand<R: LinesAtHand>(
     Ok(())
 }
 
-/// The next line of a reader, and those behind it that are at hand; none at its end.
+/// The next line of a reader, and those after it that are at hand; none at its end.
 fn next_group<R: LinesAtHand>(alloc: Global, reader: &mut R) -> Result<Vec<Vec<u8>>, Fault>
     ensures { IfOk result (λ lines.
         IfSome (R.remaining reader.old) (λ input. NextLines input (contents lines.items) (R.remaining reader.new))) }
@@ -226,7 +222,7 @@ fn next_group<R: LinesAtHand>(alloc: Global, reader: &mut R) -> Result<Vec<Vec<u
     Ok(lines)
 }
 
-/// Serves the lines of a reader, until it ends, in groups of those that are at hand: the number of the first that tells
+/// Serves the lines of a reader, until it ends, in groups of those that are at hand: the number of the first that is
 /// no message, if there is one.
 fn serve_groups<
     S: ReplySigner,
@@ -248,7 +244,7 @@ fn serve_groups<
     ensures served { OnOk result (IfSome (R.remaining reader.old) (λ input. (lines : List (List ℕ)) ×
         (written : List ℕ) ×
         AreLines input lines [] ×
-        LinesServed (O.begins holder.now) (O.settles holder.now) T.tends
+        LinesServed (O.begins holder.now) (O.settles holder.now)
         (keyed_of H.ZoneHandler S.signature_for server.old) lines written server.new.server.catalog.zones ×
         Appends (W.contents writer.old) (W.contents writer.new) written)) }
 {
@@ -262,12 +258,12 @@ fn serve_groups<
         let first_bad = serve_group(alloc, clock, server, holder, &lines, writer)?;
         bad = bad.or(number_of(before, first_bad));
         before = before.saturating_add(lines.len() as u64);
-        watch.after_lines(&mut server.server.catalog)?;
+        watch.after_lines(&mut server.server.catalog);
     }
     Err(Fault::Read)
 }
 
-/// The number of a line, the first being 1, which stands at a place of a group behind so many lines.
+/// The number of a line, the first being 1, which is at a place of a group after so many lines.
 fn number_of(before: u64, place: Option<usize>) -> Option<u64> {
     match place {
         Some(place) => Some(before.saturating_add(place as u64).saturating_add(1)),
@@ -275,10 +271,10 @@ fn number_of(before: u64, place: Option<usize>) -> Option<u64> {
     }
 }
 
-/// Serves the lines of an input, until it ends, in groups of those that are at hand together, 64 at most: where
+/// Serves the lines of an input, until it ends, in groups of those that are at hand together, 64 at most: if
 /// `holder` has zones hold the updates of a group, these are written before a line of it is answered, and all its
-/// answers are in memory until then; and `watch` looks after the zones behind each group. The number of the first line
-/// that tells no message, if there is one; the first line is 1. Where held updates are not written, nothing of the
+/// answers are in memory until then; and `watch` looks after the zones after each group. The number of the first line
+/// that is no message, if there is one; the first line is 1. If held updates are not written, nothing of the
 /// group is answered.
 pub fn serve_lines<
     S: ReplySigner,
@@ -300,7 +296,7 @@ pub fn serve_lines<
     ensures served { OnOk result (IfSome (R.remaining reader.old) (λ input. (lines : List (List ℕ)) ×
         (written : List ℕ) ×
         AreLines input lines [] ×
-        LinesServed (O.begins holder.now) (O.settles holder.now) T.tends
+        LinesServed (O.begins holder.now) (O.settles holder.now)
         (keyed_of H.ZoneHandler S.signature_for server.old) lines written server.new.server.catalog.zones ×
         Appends (W.contents writer.old) (W.contents writer.new) written)) }
 {

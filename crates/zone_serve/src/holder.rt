@@ -5,9 +5,9 @@ ghost use Rattle.std.specs.Prelude.{◌≡◌, IfOk, IsTrue};
 use crate::fault::Fault;
 use crate::groups::Holder;
 use crate::journals::Journalled;
-use hickory_server::proto::Name;
-use served_updates::holding::{hold_all, settle_all};
-use served_updates::moving::{Handler, Zones};
+use hickory_server::proto::LowerName;
+use served_zones::handler::{Handler, Zones};
+use served_zones::holding::{hold_all, settle_all};
 use signed_server::LeftToServer;
 use sqlite_disk::Disk;
 use std::alloc::{AllocError, Global};
@@ -19,7 +19,7 @@ const FEWEST_UPDATES: usize = 2;
 #[derive(Drop)]
 pub struct JournalHolder {
     /// The names of their apexes, in the order of the journals.
-    apexes: Vec<Name>,
+    apexes: Vec<LowerName>,
     /// Whether updates of lines that are at hand together are held.
     in_groups: bool,
 }
@@ -42,7 +42,7 @@ impl JournalHolder {
 }
 
 /// Whether the message of a line is an update, by the opcode in its third byte (RFC 1035 section 4.1.1, RFC 2136
-/// section 1.3). What is said of a line that tells no message does not matter.
+/// section 1.3). What it says of a line that is no message does not matter.
 fn is_update(line: &[u8]) -> bool {
     let mut words = line
         .split(|b| b.is_ascii_whitespace())
@@ -63,7 +63,7 @@ fn are_worth(lines: &[Vec<u8>]) -> bool {
 }
 
 impl<D: Disk + Drop> Holder<LeftToServer, Handler<D>> for JournalHolder {
-    ghost use Rattle.served_updates.specs.Holding.{AllBegin, AllSettle};
+    ghost use Rattle.served_zones.specs.Holding.{AllBegin, AllSettle};
 
     ghost begins = { λ holder old new. IsTrue holder.in_groups × AllBegin holder.apexes.items old new };
 
@@ -78,12 +78,12 @@ impl<D: Disk + Drop> Holder<LeftToServer, Handler<D>> for JournalHolder {
         if !self.in_groups || self.apexes.is_empty() || !are_worth(lines) {
             return Ok(false);
         }
-        hold_all(alloc, catalog, &self.apexes)?;
+        hold_all(alloc, catalog, &self.apexes);
         Ok(true)
     }
 
     fn settle(&self, alloc: Global, catalog: &mut Zones<D>) -> Result<(), Fault> {
-        match settle_all(alloc, catalog, &self.apexes)? {
+        match settle_all(alloc, catalog, &self.apexes) {
             None => Ok(()),
             Some(place) => Err(Fault::Unwritten { place }),
         }

@@ -1,55 +1,23 @@
 //! Zone files that include others (RFC 1035 section 5.1).
 
 ghost use Rattle.std.specs.Prelude.{◌≡◌, ◌≢◌, ◌↔◌, [], IfOk};
-ghost use Rattle.served_zones.specs.ServedZones.{IsServedZone, IsZoneOfFiles};
-ghost use Rattle.served_zones.specs.declared.zones.ZoneFault.TheVariants.{Memory as NoMemory};
-ghost use Rattle.zone_serve.specs.declared.zones.ZoneFileFault.TheVariants as told;
+ghost use Rattle.served_zones.specs.ServedZones.{IsZoneOfFiles, loaded};
+ghost use Rattle.served_zones.specs.declared.zone_files.ZoneFault.TheVariants.{Memory as NoMemory};
+ghost use Rattle.zone_serve.specs.Catalogs.{IsZoneAt};
+ghost use Rattle.zone_serve.specs.declared.zone_fault.ZoneFileFault.TheVariants as told;
 
-use crate::files::{FileFault, bytes_of};
-use crate::zones::ZoneFileFault;
+use crate::zone_fault::ZoneFileFault;
 use hickory_server::proto::Name;
-use hickory_server::store::authoritative::AuthoritativeZone;
-use hickory_server::zone_text::{FileOpener, FileRefusal};
-use served_zones::zones::{RefusedFile, ZoneFault, zone_with_files};
+use hickory_server::zone_text::FileOpener;
+use served_zones::zone_files::{RefusedFile, ZoneFault, zone_with_files};
+use sqlite_disk::Disk;
 use std::alloc::Global;
-use std::rt::Files;
 use std::str;
+use tsig::TsigVerifier;
+use zones::Zone;
 
-impl From<FileFault> for FileRefusal {
-    fn from(e: FileFault) -> FileRefusal {
-        match e {
-            FileFault::Absent => FileRefusal::Absent,
-            FileFault::Forbidden => FileRefusal::Forbidden,
-            FileFault::Folder => FileRefusal::Folder,
-            FileFault::Other => FileRefusal::Other,
-            FileFault::Memory => FileRefusal::Memory,
-        }
-    }
-}
-
-/// The files of the system by their paths, of which one that does not begin with `/` is below the folder that the
-/// program runs in.
-#[derive(Drop)]
-struct FilesByPath<'a, R> {
-    rt: &'a R,
-}
-
-impl<R: Files + Alloc<A = Global>> FileOpener for FilesByPath<'_, R> {
-    // What a disk holds is outside: any bytes may stand in a file, and any reason refuse it.
-    ghost opens = { λ _ _ _. Unit {0} };
-
-    ghost refuses = { λ _ _ _. Unit {0} };
-
-    fn open(&self, _alloc: Global, file: &[u8]) -> Result<Vec<u8>, FileRefusal> {
-        let Ok(path) = str::from_utf8(file) else {
-            return Err(FileRefusal::BadName);
-        };
-        Ok(bytes_of(self.rt, path)?)
-    }
-}
-
-/// The fault of a zone file for which it, or a file that it includes, is refused. One of an included file is told on
-/// the standard error, by the name of that file.
+/// The fault for which a zone file, or a file that it includes, is refused. One of an included file is reported on the
+/// standard error, by the name of that file.
 fn fault_of_refused<R: Eprint>(rt: &R, refused: &RefusedFile) -> ZoneFileFault
     ensures memory { result ≡ told.Memory ↔ refused.now.fault ≡ NoMemory }
     ensures own { refused.now.file ≡ [] → refused.now.fault ≢ NoMemory → result ≡ told.Zone refused.now.fault }
@@ -65,15 +33,16 @@ fn fault_of_refused<R: Eprint>(rt: &R, refused: &RefusedFile) -> ZoneFileFault
 }
 
 /// The zone of this apex that the bytes of a zone file have with the files that it includes. A fault in one of these is
-/// told on the standard error.
-fn zone_with<R: Eprint + Alloc<A = Global>, O: FileOpener>(
+/// reported on the standard error.
+fn zone_with<R: Eprint + Alloc<A = Global>, O: FileOpener, D: Disk + Drop>(
     rt: &R,
     apex: &Name,
     bytes: &[u8],
     files: &O,
-) -> Result<AuthoritativeZone, ZoneFileFault>
-    ensures zone { IfOk result (IsServedZone apex.now) }
-    ensures read { IfOk result (IsZoneOfFiles (O.opens files.now) apex.now bytes.now) }
+) -> Result<Zone<TsigVerifier, D>, ZoneFileFault>
+    ensures zone { IfOk result (λ it. it ≡ loaded it.updatable.zone) }
+    ensures read { IfOk result
+        (λ it. IsZoneOfFiles (O.opens files.now) bytes.now apex.now it.updatable.zone) }
 {
     match zone_with_files(rt.alloc(), apex, bytes, files) {
         Ok(zone) => Ok(zone),
@@ -81,15 +50,17 @@ fn zone_with<R: Eprint + Alloc<A = Global>, O: FileOpener>(
     }
 }
 
-/// The zone of this apex that a zone file has with the files that it includes. A fault in one of these is told on the
-/// standard error.
-pub fn zone_of<R: Files + Eprint + Alloc<A = Global>>(
+/// The zone of this apex that the file of this name has with the files that it includes. A fault in one of these is
+/// reported on the standard error.
+pub fn zone_of<R: Eprint + Alloc<A = Global>, O: FileOpener, D: Disk + Drop>(
     rt: &R,
+    files: &O,
     apex: &Name,
     file: &str,
-) -> Result<AuthoritativeZone, ZoneFileFault>
-    ensures { IfOk result (IsServedZone apex.now) }
+) -> Result<Zone<TsigVerifier, D>, ZoneFileFault>
+    ensures zone { IfOk result (λ it. it ≡ loaded it.updatable.zone) }
+    ensures read { IfOk result (λ it. IsZoneAt (O.opens files.now) file.now apex.now it.updatable.zone) }
 {
-    let bytes = bytes_of(rt, file)?;
-    zone_with(rt, apex, &bytes, &FilesByPath { rt })
+    let bytes = files.open(rt.alloc(), file.as_bytes())?;
+    zone_with(rt, apex, &bytes, files)
 }

@@ -5,21 +5,22 @@ ghost use Rattle.sqlite_disk.specs.Disk.{Only};
 ghost use Rattle.served_zones.specs.ServedZones.{IsApexText};
 ghost use Rattle.zone_serve.specs.Journals.{AreJournalled, HasOpened, IsJournalledBy};
 ghost use Rattle.zone_serve.specs.Telling.{IsDue};
-ghost use Rattle.served_updates.specs.Journals.{Stays};
+ghost use Rattle.wire_names.specs.rr.domain.DomainName.{DomainName};
 ghost use Rattle.wire_names.specs.rr.domain.NameOrder.{lower_name};
 
 use crate::damage::{Damage, find_damage, is_none_at};
 use crate::fault::Fault;
-use crate::files::{FileFault, fault_of};
+use crate::files::fault_of;
 use crate::groups::Watch;
 use crate::server::apex_of;
 use crate::serving::now;
-use hickory_server::proto::Name;
+use hickory_server::proto::LowerName;
+use hickory_server::zone_text::FileRefusal;
 use serve_options::arguments::ZoneArgument;
-use served_updates::journals::{
+use served_zones::handler::{Handler, Zones};
+use served_zones::journals::{
     JournalFault, JournalState, Opened, compact_due, has_updates, open_journal,
 };
-use served_updates::moving::{Handler, Zones};
 use signed_server::LeftToServer;
 use sqlite_disk::{Disk, Files as TwoFiles};
 use sqlite_std_file::{File, OpenError, Unknown, open};
@@ -32,14 +33,14 @@ use thiserror::Error;
 pub enum JournalFileFault {
     /// One of its two files cannot be opened.
     #[error("{0}")]
-    File(FileFault),
+    File(FileRefusal),
     /// Another process has them open, or another zone.
     #[error("the journal is in use")]
     InUse,
     /// A journal of SQLite's has the name of one beside it.
     #[error("a journal of SQLite stands beside it")]
     Rollback,
-    /// The file that stands there is no journal's, and is left as it is.
+    /// The file at this path is no journal's, and is left as it is.
     #[error("it is no journal")]
     NotAJournal,
     /// So is the file beside it.
@@ -58,7 +59,7 @@ pub enum JournalFileFault {
 
 /// Where the files of journals are opened.
 pub trait JournalFiles<D: Disk> {
-    /// The two files of the journal at a path, for this process alone: what is read of them is what is on the disk.
+    /// The two files of the journal at a path, only for this process: what is read of them is what is on the disk.
     fn open_two(&self, path: &str) -> Result<TwoFiles<D>, JournalFileFault>
         ensures usable { IfOk result (λ files. IsTrue (D.is_usable files.db) × IsTrue (D.is_usable files.log)) }
         ensures restarted { IfOk result (λ files. Only (D.seen files.db) (D.may_leave files.db) ×
@@ -79,7 +80,7 @@ fn fault_of_opening(error: &OpenError) -> JournalFileFault {
         OpenError::Busy => JournalFileFault::InUse,
         OpenError::HotJournal => JournalFileFault::Rollback,
         OpenError::Io(e) => match fault_of(e) {
-            FileFault::Memory => JournalFileFault::Memory,
+            FileRefusal::Memory => JournalFileFault::Memory,
             fault => JournalFileFault::File(fault),
         },
     }
@@ -98,16 +99,16 @@ impl<'a> JournalFiles<File> for SystemFiles<'a> {
 #[derive(Drop)]
 pub struct Journalled<'a> {
     /// The name of its apex.
-    apex: Name,
+    apex: LowerName,
     /// The file of the journal.
     file: &'a str,
-    /// When it was told last that the journal takes no updates any more, in seconds since 1970, if it was.
+    /// When it was last reported that the journal takes no updates any more, in seconds since 1970, if it was.
     told: Option<u64>,
 }
 
 impl<'a> Journalled<'a> {
     /// The name of its apex.
-    pub fn apex(&self) -> &Name {
+    pub fn apex(&self) -> &LowerName {
         &self.apex
     }
 }
@@ -118,7 +119,7 @@ fn open_at<D: Disk + Drop, F: JournalFiles<D>>(
     files: &F,
     path: &str,
     zones: &mut Zones<D>,
-    apex: &Name,
+    apex: &LowerName,
 ) -> Result<Opened, JournalFileFault>
     ensures opened { OnOk result (HasOpened D.Disk apex.now zones.old.zones zones.new.zones) }
     ensures others { zones.new ≡ record zones.old { zones = zones.new.zones } }
@@ -131,19 +132,19 @@ fn open_at<D: Disk + Drop, F: JournalFiles<D>>(
     }
 }
 
-/// Tells that a journal takes no updates any more. That it cannot be told changes nothing.
+/// Reports that a journal takes no updates any more. A failure to report it changes nothing.
 fn tell_shut<R: Eprint>(rt: &R, file: &str) {
     let _ = eprintln!(rt;
         "zone_serve: {file}: the journal is not written: each update is SERVFAIL until the next start"
     );
 }
 
-/// Tells that a journal could not be compacted. That it cannot be told changes nothing.
+/// Reports that a journal could not be compacted. A failure to report it changes nothing.
 fn tell_long<R: Eprint>(rt: &R, file: &str, fault: JournalFault) {
     let _ = eprintln!(rt; "zone_serve: {file}: the journal is long, and is not compacted: {fault}");
 }
 
-/// Tells what an operator is to know of a journal that was opened. That it cannot be told changes nothing.
+/// Reports what an operator must know of a journal that was opened. A failure to report it changes nothing.
 fn tell_opened<R: Eprint>(rt: &R, file: &str, opened: Opened) {
     if opened.journal != opened.file {
         let _ = eprintln!(rt;
@@ -162,15 +163,16 @@ fn apex_for<D: Disk + Drop>(
     zones: &Zones<D>,
     argument: ZoneArgument<'_>,
     earlier: &[Journalled<'_>],
-) -> Result<Name, Fault>
-    ensures { IfOk result (IsApexText argument.entry.name.now) }
+) -> Result<LowerName, Fault>
+    ensures { IfOk result (λ lower. (apex : DomainName) × IsApexText argument.entry.name.now apex ×
+        (lower ≡ lower_name apex)) }
 {
     let place = argument.place;
-    let apex = apex_of(alloc, argument.name, place)?;
+    let apex = LowerName::new(alloc, &apex_of(alloc, argument.name, place)?)?;
     if earlier.iter().any(|it| it.apex == apex) {
         return Err(Fault::JournalTwice { place });
     }
-    if !has_updates(alloc, zones, &apex)? {
+    if !has_updates(zones, &apex)? {
         return Err(Fault::JournalZone { place });
     }
     Ok(apex)
@@ -180,7 +182,7 @@ fn apex_for<D: Disk + Drop>(
 fn with_place<R: Files + Alloc<A = Global>>(
     rt: &R,
     path: &str,
-    apex: &Name,
+    apex: &LowerName,
     fault: JournalFileFault,
 ) -> JournalFileFault {
     match fault {
@@ -229,8 +231,8 @@ fn open_one<'a, R: Clock + Files + Eprint + Alloc<A = Global>, D: Disk + Drop, F
     }
 }
 
-/// Opens the journals of the arguments, in their order, each for its zone, and tells where a journal has another zone
-/// than the file.
+/// Opens the journals of the arguments, in their order, each for its zone, and reports each journal that has another
+/// zone than the file.
 pub fn open_journals<
     'a,
     R: Clock + Files + Eprint + Alloc<A = Global>,
@@ -253,7 +255,7 @@ pub fn open_journals<
     Ok(opened)
 }
 
-/// Compacts journals that have become long, and tells of those that take no updates any more, of each at most once a
+/// Compacts journals that have become long, and reports those that take no updates any more, each at most once a
 /// minute.
 #[derive(Drop)]
 pub struct JournalWatch<'r, 'a> {
@@ -263,8 +265,8 @@ pub struct JournalWatch<'r, 'a> {
     pub journals: Vec<Journalled<'a>>,
 }
 
-/// Whether what was last told at a moment, if it was, is to be told again: a minute later, or where the clock was set
-/// back.
+/// Whether what was last reported at a moment, if it was, must be reported again: a minute later, or if the clock was
+/// set back.
 fn is_due(told: Option<u64>, now: u64) -> bool
     ensures { IsTrue result ↔ IsDue told now }
 {
@@ -274,7 +276,7 @@ fn is_due(told: Option<u64>, now: u64) -> bool
     }
 }
 
-/// The moment, in seconds since 1970; 0 where the system tells none.
+/// The time, in seconds since 1970; 0 if the system gives none.
 fn moment<R: Clock>(rt: &R) -> u64 {
     now(rt).unwrap_or(0)
 }
@@ -288,34 +290,27 @@ fn tell_again<R: Clock + Eprint>(rt: &R, journal: &mut Journalled<'_>) {
     }
 }
 
-/// Compacts one journal, if it is to be, and tells how it is. After an error its zone may be gone.
+/// Compacts one journal, if it must be compacted, and reports how it is.
 fn look_after<R: Clock + Eprint + Alloc<A = Global>, D: Disk + Drop>(
     rt: &R,
     zones: &mut Zones<D>,
     journal: &mut Journalled<'_>,
-) -> Result<(), Fault>
-    ensures stays { OnOk result (Stays (lower_name journal.old.apex) zones.old.zones zones.new.zones) }
-    ensures others { zones.new ≡ record zones.old { zones = zones.new.zones } }
+)
+    ensures { zones.new ≡ zones.old }
 {
-    match compact_due(rt.alloc(), zones, &journal.apex)? {
+    match compact_due(rt.alloc(), zones, &journal.apex) {
         JournalState::Open => {}
         JournalState::Shut => tell_again(rt, journal),
         JournalState::Long(fault) => tell_long(rt, journal.file, fault),
     }
-    Ok(())
 }
 
 impl<'r, 'a, D: Disk + Drop> Watch<LeftToServer, Handler<D>> for JournalWatch<'r, 'a> {
-    ghost use Rattle.zone_serve.specs.Journals.{AllStay};
-
-    ghost tends = { AllStay };
-
-    fn after_lines(&mut self, catalog: &mut Zones<D>) -> Result<(), Fault> {
+    fn after_lines(&mut self, catalog: &mut Zones<D>) {
         for place in 0..self.journals.len() {
             if let Some(journal) = self.journals.get_mut(place) {
-                look_after(self.rt, catalog, journal)?;
+                look_after(self.rt, catalog, journal);
             }
         }
-        Ok(())
     }
 }

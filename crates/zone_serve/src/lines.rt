@@ -2,18 +2,18 @@
 
 ghost use Rattle.std.specs.Prelude.{◌≡◌, ◌++◌, ◌∷◌, [], IfOk, IfSome, Ok};
 ghost use Rattle.hex.specs.Hex.{decode_of};
-ghost use Rattle.hex_lines.specs.Lines.{hex_lines};
+ghost use Rattle.wire_names.specs.HexLines.{hex_lines};
 ghost use Rattle.zone_serve.specs.Lines.{AreWords, IsLineOf, IsTransport, answer_lines};
 
 use crate::peer;
-use hex_lines::{bytes_of, lines_of};
 use hickory_server::proto::{Octets, Protocol};
 use hickory_server::server::Answer;
 use std::alloc::{AllocError, Global};
 use std::net::IpAddr;
 use std::str;
+use wire_names::hex_lines::{bytes_of, lines_of};
 
-/// A message as a line tells it.
+/// A message as a line has it.
 #[derive(Drop)]
 pub struct LineMessage {
     /// The transport that it came over.
@@ -24,7 +24,7 @@ pub struct LineMessage {
     pub bytes: Vec<u8>,
 }
 
-/// What is told of a line that tells no message.
+/// The answer to a line that is no message.
 pub const BAD_LINE: &[u8] = b"bad line\n";
 
 /// The transport of this name.
@@ -76,7 +76,7 @@ fn message_of(
     }
 }
 
-/// The message that a line tells, or `None` where it tells none: `udp` or `tcp`, the address that the message came
+/// The message that a line has, or `None` if it has none: `udp` or `tcp`, the address that the message came
 /// from, and its bytes in hex digits, with blanks between them.
 pub fn read_line(alloc: Global, line: &[u8]) -> Result<Option<LineMessage>, AllocError>
     ensures { IfOk result (λ message. IfSome message (IsLineOf line.now)) }
@@ -99,7 +99,7 @@ fn reply_lines(alloc: Global, replies: &[Octets]) -> Result<Vec<u8>, AllocError>
     Ok(lines)
 }
 
-/// The lines that tell what became of a message: a line of hex digits for each reply and an empty one, or a word.
+/// The lines that say what became of a message: a line of hex digits for each reply and an empty one, or a word.
 pub fn answer_lines(alloc: Global, answer: &Answer) -> Result<Vec<u8>, AllocError>
     ensures { IfOk result (λ lines. lines.items ≡ answer_lines answer.now) }
 {

@@ -1,17 +1,16 @@
 //! The list of blocked names, from its files.
 
-ghost use Rattle.std.specs.Prelude.{◌≡◌, ◌<◌, IfOk, OnOk, length, option_map};
+ghost use Rattle.std.specs.Prelude.{◌≡◌, ◌<◌, IfOk, OnOk, map, option_map};
 ghost use Rattle.name_lists.specs.Adding.{AddsList};
 ghost use Rattle.zone_serve.specs.Catalogs.{AddsFile, AddsFiles, IsListOf};
 
 use crate::fault::Fault;
-use crate::files::{FileFault, bytes_of};
 use hickory_server::store::blocklist::BlocklistZoneHandler;
+use hickory_server::zone_text::{FileOpener, FileRefusal};
 use name_lists::ListReport;
 use served_zones::lists;
 use std::alloc::{AllocError, Global};
 use std::rc::Rc;
-use std::rt::Files;
 use thiserror::Error;
 
 /// Why a list of blocked names is not taken.
@@ -19,7 +18,7 @@ use thiserror::Error;
 pub enum ListFault {
     /// Its file cannot be read.
     #[error("{0}")]
-    File(FileFault),
+    File(FileRefusal),
     /// It blocks nothing: it is empty, or another kind of file.
     #[error("no line of the list gives a name")]
     NoNames,
@@ -28,10 +27,10 @@ pub enum ListFault {
     Memory,
 }
 
-impl From<FileFault> for ListFault {
-    fn from(e: FileFault) -> ListFault {
+impl From<FileRefusal> for ListFault {
+    fn from(e: FileRefusal) -> ListFault {
         match e {
-            FileFault::Memory => ListFault::Memory,
+            FileRefusal::Memory => ListFault::Memory,
             other => ListFault::File(other),
         }
     }
@@ -43,7 +42,7 @@ impl From<AllocError> for ListFault {
     }
 }
 
-/// Adds the names that the lines of a text give to those that are blocked, where one gives a name, and tells what
+/// Adds the names that the lines of a text give to those that are blocked, if one gives a name, and says what
 /// became of the lines.
 fn add_text(
     alloc: Global,
@@ -62,16 +61,17 @@ fn add_text(
     }
 }
 
-/// Adds the names of a file to those that are blocked.
-fn add_list<R: Files + Alloc<A = Global>>(
-    rt: &R,
+/// Adds the names of the file of this name to those that are blocked.
+fn add_list<O: FileOpener>(
+    alloc: Global,
+    opener: &O,
     list: &mut BlocklistZoneHandler,
     file: &str,
 ) -> Result<ListReport, ListFault>
-    ensures { OnOk result (AddsFile list.old list.new) }
+    ensures { OnOk result (AddsFile (O.opens opener.now) file.now list.old list.new) }
 {
-    let bytes = bytes_of(rt, file)?;
-    add_text(rt.alloc(), list, bytes.as_slice())
+    let bytes = opener.open(alloc, file.as_bytes())?;
+    add_text(alloc, list, bytes.as_slice())
 }
 
 /// Tells on the standard error how many lines of a list were skipped, if any were, and the numbers of the first three.
@@ -95,17 +95,18 @@ fn tell_of_skipped<R: Eprint>(rt: &R, file: &str, report: &ListReport) {
     }
 }
 
-/// Adds the names of each of these files to those that are blocked, in their order. What of them is skipped is told on
-/// the standard error.
-fn add_lists<R: Files + Eprint + Alloc<A = Global>>(
+/// Adds the names of each of these files to those that are blocked, in their order. What of them is skipped is reported
+/// on the standard error.
+fn add_lists<R: Eprint + Alloc<A = Global>, O: FileOpener>(
     rt: &R,
+    opener: &O,
     list: &mut BlocklistZoneHandler,
     files: &[&str],
 ) -> Result<(), Fault>
-    ensures { OnOk result (AddsFiles (length files.now) list.old list.new) }
+    ensures { OnOk result (AddsFiles (O.opens opener.now) (map (λ file. file.now) files.now) list.old list.new) }
 {
     for place in 0..files.len() {
-        match add_list(rt, list, files[place]) {
+        match add_list(rt.alloc(), opener, list, files[place]) {
             Ok(report) => tell_of_skipped(rt, files[place], &report),
             Err(ListFault::Memory) => return Err(Fault::Memory),
             Err(fault) => return Err(Fault::List { place, fault }),
@@ -114,17 +115,20 @@ fn add_lists<R: Files + Eprint + Alloc<A = Global>>(
     Ok(())
 }
 
-/// The list with the names of these files, if there are files. What of them is skipped is told on the standard error.
-pub fn blocklist<R: Files + Eprint + Alloc<A = Global>>(
+/// The list with the names of these files, if there are files. What of them is skipped is reported on the standard
+/// error.
+pub fn blocklist<R: Eprint + Alloc<A = Global>, O: FileOpener>(
     rt: &R,
+    opener: &O,
     files: &[&str],
 ) -> Result<Option<Rc<BlocklistZoneHandler>>, Fault>
-    ensures { IfOk result (λ list. IsListOf (length files.now) (option_map (λ it. it.value) list)) }
+    ensures { IfOk result (λ list.
+        IsListOf (O.opens opener.now) (map (λ file. file.now) files.now) (option_map (λ it. it.value) list)) }
 {
     if files.is_empty() {
         return Ok(None);
     }
     let mut list = lists::blocklist(rt.alloc())?;
-    add_lists(rt, &mut list, files)?;
+    add_lists(rt, opener, &mut list, files)?;
     Ok(Some(Rc::new(rt.alloc(), list)?))
 }

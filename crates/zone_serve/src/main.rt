@@ -1,21 +1,20 @@
 //! A server of zones for whoever owns the sockets: `zone_serve [--zone NAME=FILE].. [OPTION].. udp|tcp|lines` answers
-//! what the standard input brings on the standard output, and tells on the standard error what of it was not answered.
+//! what the standard input brings on the standard output, and reports on the standard error what was not answered.
 //! `zone_serve --version` prints its name and version, and `zone_serve --help` how it is started.
 //!
-//! `udp`: the input is one datagram. `tcp`: it is messages behind their lengths (RFC 1035 section 4.2.2), and each is
-//! answered as soon as it is whole. `lines`: it is lines `udp|tcp ADDRESS HEX`. The status is 0 where all of the input
-//! was answered, 1 where some of it was not, 2 for wrong arguments or a wrong address of the peer, 3 without memory, 4
-//! where input, output or clock fail, 5 where a file is not taken, and 6 where updates at hand are not written.
+//! `udp`: the input is one datagram. `tcp`: it is messages, each after its length (RFC 1035 section 4.2.2), and each is
+//! answered as soon as it is whole. `lines`: it is lines `udp|tcp ADDRESS HEX`. The status is 0 if all of the input was
+//! answered, 1 if some of it was not, 2 for wrong arguments or a wrong address of the peer, 3 if an allocation fails, 4
+//! if input, output or clock fail, 5 if a file is not taken, and 6 if updates at hand are not written.
 #![tactic(auto)]
 
-ghost use Rattle.std.specs.Prelude.{◌≡◌, [], IfOk, MatchOption, None, OnOk, is_none, map, option_map};
+ghost use Rattle.std.specs.Prelude.{◌≡◌, [], IfOk, MatchOption, OnOk, option_map};
 ghost use Rattle.std.specs.List.{AllZip};
-ghost use Rattle.access_control.specs.Access.{SameNetworks};
-ghost use Rattle.hickory_base.specs.zone_store.ZoneAnswers.{MemoryZone};
-ghost use Rattle.served_zones.specs.ServedZones.{AreLoaded, IsLoadedAs, IsPlaced, IsServedZone};
-ghost use Rattle.served_keys.specs.ServedKeys.{IsKeyName};
+ghost use Rattle.server_limits.specs.Access.{SameNetworks};
+ghost use Rattle.served_zones.specs.ServedZones.{IsLoadedAs};
+ghost use Rattle.served_keys.specs.ServedKeys.{IsKeyNamed};
 ghost use Rattle.serve_options.specs.Arguments.{transfer_keys_of};
-ghost use Rattle.zone_serve.specs.Catalogs.{AreFixedZonesOf, AreKeysOf, AreZonesOf, denied_transfers};
+ghost use Rattle.zone_serve.specs.Catalogs.{AreKeysOf, AreLoaded, AreZonesOf, IsZoneAt, denied_transfers};
 
 mod damage;
 mod fault;
@@ -32,9 +31,10 @@ mod peer;
 mod server;
 mod serving;
 mod updates;
-mod zones;
+mod zone_fault;
 
 use crate::fault::Fault;
+use crate::files::FilesByPath;
 use crate::groups::{Holder, Watch, serve_lines};
 use crate::holder::JournalHolder;
 use crate::included::zone_of;
@@ -43,31 +43,32 @@ use crate::keys::{keys_of, transfer_keys_of};
 use crate::lists::blocklist;
 use crate::server::{apex_of, identifier_of, rules_of};
 use crate::serving::{serve_datagram, serve_stream};
-use crate::updates::{grants_of, see_zones, take_updates};
-use crate::zones::ZoneFileFault;
+use crate::updates::{grants_of, see_zones};
+use crate::zone_fault::ZoneFileFault;
 use hickory_server::VERSION;
 use hickory_server::proto::Name;
-use hickory_server::server::{NoKeys, Server};
+use hickory_server::server::Server;
 use hickory_server::store::blocklist::BlocklistZoneHandler;
 use hickory_server::zone_handler::{Catalog, ZoneHandler};
+use hickory_server::zone_store::Either;
+use hickory_server::zone_text::FileOpener;
 use serve_options::arguments::{ArgumentFault, Mode, Settings, ZoneArgument};
-use served_updates::moving::{Handler, Zones};
 use served_zones::chains::{chain, put_chain};
-use served_zones::handler::{Handler as FixedHandler, Zones as FixedZones};
-use served_zones::parents::{Loaded, alone, join_parents};
+use served_zones::grants::grant_updates;
+use served_zones::handler::{Handler, Zones};
 use signed_server::{LeftToServer, SignedServer};
 use sqlite_disk::Disk;
 use sqlite_std_file::File;
-use std::alloc::{AllocError, Global};
+use std::alloc::Global;
 use std::env::VarError;
 use std::net::{IpAddr, Ipv4Addr};
 use std::process::ExitCode;
 use std::rc::Rc;
-use std::rt::{Clock, Env, Files};
+use std::rt::{Clock, Env};
 use std::{env, io};
 use tsig::Keys;
 
-/// The arguments behind the program's name. One that is not UTF-8 is wrong usage.
+/// The arguments after the program's name. One that is not UTF-8 is wrong usage.
 fn given_words<R: Env + Alloc<A = Global>>(rt: &R) -> Result<Vec<String>, Fault> {
     match env::args(rt) {
         Ok(arguments) => Ok(arguments.skip(1).collect(rt.alloc())?),
@@ -78,7 +79,7 @@ fn given_words<R: Env + Alloc<A = Global>>(rt: &R) -> Result<Vec<String>, Fault>
     }
 }
 
-/// The address of the peer that a variable tells, if it is there.
+/// The address of the peer in a variable of the environment, if it is set.
 fn told_peer<R: Env + Alloc<A = Global>>(rt: &R, name: &str) -> Result<Option<IpAddr>, Fault> {
     match env::var(rt, name) {
         Ok(text) => match peer::address(text.as_str()) {
@@ -91,8 +92,8 @@ fn told_peer<R: Env + Alloc<A = Global>>(rt: &R, name: &str) -> Result<Option<Ip
     }
 }
 
-/// The address of the peer, as systemd tells it (`REMOTE_ADDR`), or socat (`SOCAT_PEERADDR`), and 127.0.0.1 where
-/// neither does.
+/// The address of the peer, as systemd gives it (`REMOTE_ADDR`), or socat (`SOCAT_PEERADDR`), and 127.0.0.1 if neither
+/// does.
 fn peer_address<R: Env + Alloc<A = Global>>(rt: &R) -> Result<IpAddr, Fault> {
     if let Some(address) = told_peer(rt, "REMOTE_ADDR")? {
         return Ok(address);
@@ -103,148 +104,100 @@ fn peer_address<R: Env + Alloc<A = Global>>(rt: &R) -> Result<IpAddr, Fault> {
     Ok(IpAddr::V4(Ipv4Addr::LOCALHOST))
 }
 
-/// The zone of a file.
-fn load_zone<R: Files + Eprint + Alloc<A = Global>>(
-    rt: &R,
-    apex: &Name,
-    file: &str,
-) -> Result<FixedHandler, ZoneFileFault>
-    ensures { IfOk result (λ handler. (zone : MemoryZone) × IsPlaced zone None handler × IsServedZone apex.now zone) }
-{
-    let zone = zone_of(rt, apex, file)?;
-    Ok(alone(rt.alloc(), zone)?)
-}
-
-/// The list of blocked names once more, if there is one.
-fn shared(
-    list: Option<&Rc<BlocklistZoneHandler>>,
-) -> Result<Option<Rc<BlocklistZoneHandler>>, AllocError>
-    ensures { IfOk result (λ shared. option_map (λ it. it.value) shared ≡ option_map (λ it. it.now.value) list.entry) }
-{
-    match list {
-        Some(list) => Ok(Some(list.clone()?)),
-        None => Ok(None),
-    }
-}
-
 /// Puts the zone of an argument into the catalog, the one at this place among the zones, with the list of blocked names
-/// behind it.
-fn load<R: Files + Eprint + Alloc<A = Global>>(
+/// after it. Returns the name of its apex.
+fn load<R: Eprint + Alloc<A = Global>, O: FileOpener, D: Disk + Drop>(
     rt: &R,
-    catalog: &mut FixedZones,
+    files: &O,
+    catalog: &mut Zones<D>,
     argument: ZoneArgument<'_>,
     place: usize,
     list: Option<&Rc<BlocklistZoneHandler>>,
-) -> Result<Loaded, Fault>
-    ensures loaded { IfOk result (λ loaded.
-        IsLoadedAs argument.entry.name.now (option_map (λ it. it.now.value) list.entry) loaded catalog.old.zones
-        catalog.new.zones) }
+) -> Result<Name, Fault>
+    ensures loaded { IfOk result (λ apex.
+        IsLoadedAs (IsZoneAt (O.opens files.now) argument.entry.file.now) argument.entry.name.now
+        (option_map (λ it. it.now.value) list.entry) apex catalog.old.zones catalog.new.zones) }
     ensures others { catalog.new ≡ record catalog.old { zones = catalog.new.zones } }
 {
     let apex = apex_of(rt.alloc(), argument.name, argument.place)?;
-    let zone = match load_zone(rt, &apex, argument.file) {
+    let zone = match zone_of(rt, files, &apex, argument.file) {
         Ok(zone) => zone,
         Err(ZoneFileFault::Memory) => return Err(Fault::Memory),
         Err(fault) => return Err(Fault::Zone { place, fault }),
     };
-    let chain = chain(rt.alloc(), zone, list)?;
-    let list = shared(list)?;
+    let chain = chain(rt.alloc(), Either::Left(zone), list)?;
     if put_chain(rt.alloc(), catalog, &apex, chain)? {
-        Ok(Loaded { apex, list })
+        Ok(apex)
     } else {
         Err(Fault::ZoneTwice { place })
     }
 }
 
-/// Puts the zones of the arguments into the catalog, in their order, with the list of blocked names behind them.
-fn load_zones<R: Files + Eprint + Alloc<A = Global>>(
+/// Puts the zones of the arguments into the catalog, in their order, with the list of blocked names after each. Returns
+/// the names of their apexes.
+fn load_zones<R: Eprint + Alloc<A = Global>, O: FileOpener, D: Disk + Drop>(
     rt: &R,
-    catalog: &mut FixedZones,
+    files: &O,
+    catalog: &mut Zones<D>,
     arguments: &[ZoneArgument<'_>],
     list: Option<&Rc<BlocklistZoneHandler>>,
-) -> Result<Vec<Loaded>, Fault>
-    ensures loaded { IfOk result (λ loaded. AreLoaded (option_map (λ it. it.now.value) list.entry)
-        (map (λ zone. zone.name.now) arguments.now) loaded.items catalog.old.zones catalog.new.zones) }
+) -> Result<Vec<Name>, Fault>
+    ensures loaded { IfOk result (λ apexes. AreLoaded (O.opens files.now) (option_map (λ it. it.now.value) list.entry)
+        arguments.now apexes.items catalog.old.zones catalog.new.zones) }
     ensures others { catalog.new ≡ record catalog.old { zones = catalog.new.zones } }
 {
-    let mut loaded = Vec::new(rt.alloc());
+    let mut apexes = Vec::new(rt.alloc());
     for place in 0..arguments.len() {
-        loaded.push(load(rt, catalog, arguments[place], place, list)?)?;
+        apexes.push(load(rt, files, catalog, arguments[place], place, list)?)?;
     }
-    Ok(loaded)
+    Ok(apexes)
 }
 
-/// Puts the zones that the arguments ask for into a catalog without updates: each beside the one above it, with the
-/// list of blocked names behind it.
-fn load_fixed<R: Files + Eprint + Alloc<A = Global>>(
+/// Puts the zones that the arguments ask for into a catalog, with the list of blocked names after each, and gives them
+/// their rules.
+fn put_zones<R: Eprint + Alloc<A = Global>, O: FileOpener, D: Disk + Drop>(
     rt: &R,
-    settings: &Settings<'_>,
-    fixed: &mut FixedZones,
-) -> Result<Vec<Loaded>, Fault>
-    ensures { IfOk result (λ loaded. AreFixedZonesOf settings.now loaded.items fixed.old.zones fixed.new.zones) }
-{
-    let list = blocklist(rt, &settings.blocklists)?;
-    let loaded = load_zones(rt, fixed, &settings.zones, list.as_ref())?;
-    join_parents(rt.alloc(), fixed, &loaded)?;
-    Ok(loaded)
-}
-
-/// Puts the zones that the arguments ask for into a catalog, by way of one without updates.
-fn put_zones_by<R: Files + Eprint + Alloc<A = Global>, D: Disk + Drop>(
-    rt: &R,
+    files: &O,
     settings: &Settings<'_>,
     keys: &Keys,
-    fixed: &mut FixedZones,
     catalog: &mut Zones<D>,
 ) -> Result<(), Fault>
-    requires { fixed.old.zones ≡ [] }
-    ensures zones { OnOk result (AreZonesOf settings.now keys.now catalog.old.zones catalog.new.zones) }
+    ensures zones { OnOk result
+        (AreZonesOf (O.opens files.now) settings.now keys.now catalog.old.zones catalog.new.zones) }
     ensures others { catalog.new ≡ record catalog.old { zones = catalog.new.zones } }
 {
     let grants = grants_of(rt.alloc(), keys, &settings.updates)?;
-    let loaded = load_fixed(rt, settings, fixed)?;
-    see_zones(&grants, &loaded, &settings.updates)?;
-    take_updates(rt.alloc(), keys, &grants, &loaded, fixed, catalog)
+    let list = blocklist(rt, files, &settings.blocklists)?;
+    let apexes = load_zones(rt, files, catalog, &settings.zones, list.as_ref())?;
+    see_zones(&grants, &apexes, &settings.updates)?;
+    Ok(grant_updates(rt.alloc(), keys, &grants, &apexes, catalog)?)
 }
 
-/// Puts the zones that the arguments ask for into a catalog.
-fn put_zones<R: Files + Eprint + Alloc<A = Global>, D: Disk + Drop>(
+/// The catalog that the arguments ask for: each zone, with the list of blocked names after it, and with updates by
+/// these keys if the arguments have rules for it.
+fn catalog<R: Eprint + Alloc<A = Global>, O: FileOpener, D: Disk + Drop>(
     rt: &R,
-    settings: &Settings<'_>,
-    keys: &Keys,
-    catalog: &mut Zones<D>,
-) -> Result<(), Fault>
-    ensures zones { OnOk result (AreZonesOf settings.now keys.now catalog.old.zones catalog.new.zones) }
-    ensures others { catalog.new ≡ record catalog.old { zones = catalog.new.zones } }
-{
-    let mut fixed = Catalog::new(rt.alloc(), NoKeys);
-    let put = put_zones_by(rt, settings, keys, &mut fixed, catalog);
-    drop(fixed);
-    put
-}
-
-/// The catalog that the arguments ask for: each zone beside the one above it, with the list of blocked names behind it,
-/// and with updates by these keys where the arguments have rules for it.
-fn catalog<R: Files + Eprint + Alloc<A = Global>, D: Disk + Drop>(
-    rt: &R,
+    files: &O,
     settings: &Settings<'_>,
     keys: &Keys,
 ) -> Result<Zones<D>, Fault>
-    ensures zones { IfOk result (λ catalog. AreZonesOf settings.now keys.now [] catalog.zones) }
+    ensures zones { IfOk result
+        (λ catalog. AreZonesOf (O.opens files.now) settings.now keys.now [] catalog.zones) }
     ensures identifier { IfOk result (λ catalog. catalog.nsid ≡ option_map (λ it. it.0.now) settings.now.identifier) }
 {
     let identifier = identifier_of(rt.alloc(), settings)?;
     let mut catalog = Catalog::new(rt.alloc(), LeftToServer);
     catalog.set_nsid(identifier);
-    match put_zones(rt, settings, keys, &mut catalog) {
+    match put_zones(rt, files, settings, keys, &mut catalog) {
         Ok(()) => Ok(catalog),
         Err(fault) => Err(fault),
     }
 }
 
 /// The server that the arguments ask for.
-fn server_for<R: Files + Eprint + Alloc<A = Global>, D: Disk + Drop>(
+fn server_for<R: Eprint + Alloc<A = Global>, O: FileOpener, D: Disk + Drop>(
     rt: &R,
+    files: &O,
     settings: &Settings<'_>,
 ) -> Result<SignedServer<LeftToServer, Handler<D>>, Fault>
     ensures denied { IfOk result (λ made. SameNetworks settings.now.denied.items made.server.rules.access.deny) }
@@ -256,18 +209,20 @@ fn server_for<R: Files + Eprint + Alloc<A = Global>, D: Disk + Drop>(
         (λ made. SameNetworks settings.now.transfers_allowed.items made.server.rules.transfers.allow) }
     ensures limit { IfOk result (λ made. MatchOption settings.now.max_udp (made.server.rules.max_udp ≡ 1232)
         (λ limit. made.server.rules.max_udp ≡ limit)) }
-    ensures zones { IfOk result (λ made. AreZonesOf settings.now made.keys [] made.server.catalog.zones) }
+    ensures zones { IfOk result
+        (λ made. AreZonesOf (O.opens files.now) settings.now made.keys [] made.server.catalog.zones) }
     ensures identifier { IfOk result
         (λ made. made.server.catalog.nsid ≡ option_map (λ it. it.0.now) settings.now.identifier) }
-    ensures keys { IfOk result (λ made. AreKeysOf (is_none settings.now.keys) made.keys) }
+    ensures keys { IfOk result
+        (λ made. AreKeysOf (O.opens files.now) (option_map (λ it. it.now) settings.now.keys) made.keys) }
     ensures transfer_keys { IfOk result
-        (λ made. AllZip IsKeyName (transfer_keys_of settings.now) made.transfer_keys.items) }
+        (λ made. AllZip (IsKeyNamed made.keys) (transfer_keys_of settings.now) made.transfer_keys.items) }
 {
     let alloc = rt.alloc();
-    let keys = keys_of(rt, settings.keys)?;
+    let keys = keys_of(alloc, files, settings.keys)?;
     let names = transfer_keys_of(alloc, &keys, &settings.transfer_keys)?;
     let rules = rules_of(alloc, settings)?;
-    let server = Server::new(alloc, rules, catalog(rt, settings, &keys)?)?;
+    let server = Server::new(alloc, rules, catalog(rt, files, settings, &keys)?)?;
     let mut signed = SignedServer::new(alloc, server, keys)?;
     signed.transfer_keys = names;
     Ok(signed)
@@ -323,7 +278,7 @@ fn serve_with_journals(
 
 /// Serves the standard input as the arguments say.
 fn serve(rt: &HostRuntime, settings: &Settings<'_>, address: IpAddr) -> Result<(), Fault> {
-    let mut server = server_for(rt, settings)?;
+    let mut server = server_for(rt, &FilesByPath { rt }, settings)?;
     let ended = serve_with_journals(rt, settings, address, &mut server);
     drop(server);
     ended
@@ -332,7 +287,7 @@ fn serve(rt: &HostRuntime, settings: &Settings<'_>, address: IpAddr) -> Result<(
 /// The file that a fault is of.
 fn file_of<'a>(settings: &Settings<'a>, fault: Fault) -> Option<&'a str> {
     match fault {
-        Fault::Zone { place, .. } | Fault::ZoneTwice { place } | Fault::ZoneBelow { place } => {
+        Fault::Zone { place, .. } | Fault::ZoneTwice { place } => {
             settings.zones.get(place).map(|zone| zone.file)
         }
         Fault::List { place, .. } => settings.blocklists.get(place).copied(),
@@ -344,7 +299,7 @@ fn file_of<'a>(settings: &Settings<'a>, fault: Fault) -> Option<&'a str> {
     }
 }
 
-/// Tells a fault on the standard error, and gives its status. That it cannot be told changes nothing.
+/// Reports a fault on the standard error, and gives its status. A failure to report it changes nothing.
 fn tell<R: Eprint>(rt: &R, fault: Fault) -> u8 {
     let _ = eprintln!(rt; "zone_serve: {fault}");
     fault.status()

@@ -1,7 +1,7 @@
 //! The server: who may use it, and what it serves.
 
 ghost use Rattle.std.specs.Prelude.{◌≡◌, IfOk, MatchOption, option_map};
-ghost use Rattle.access_control.specs.Access.{SameNetworks};
+ghost use Rattle.server_limits.specs.Access.{SameNetworks};
 ghost use Rattle.served_zones.specs.ServedZones.{IsApexText};
 ghost use Rattle.serve_options.specs.Arguments.{transfer_keys_of};
 ghost use Rattle.zone_serve.specs.Catalogs.{denied_transfers};
@@ -52,7 +52,7 @@ pub fn rules_of(alloc: Global, settings: &Settings<'_>) -> Result<Rules, AllocEr
     })
 }
 
-/// The name of the apex of a zone. `place` tells which argument it is.
+/// The name of the apex of a zone. `place` says which argument it is.
 pub fn apex_of(alloc: Global, text: &str, place: usize) -> Result<Name, Fault>
     ensures { IfOk result (IsApexText text.now) }
 {

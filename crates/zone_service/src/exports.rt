@@ -1,12 +1,12 @@
 //! What C calls. `host/zone_service.h` says of each what it is given and what it answers.
 
-ghost use Rattle.std.specs.Prelude.{◌≡◌, ◌≤◌, ◌⊎◌, ◌↔◌, ◌++◌, ◌∷◌, [], IsOk, Some, drop, false, length, min, option_map, take};
-ghost use Rattle.access_control.specs.Access.{Inserts, Network};
+ghost use Rattle.std.specs.Prelude.{◌≡◌, ◌≢◌, ◌≤◌, ◌⊎◌, ◌↔◌, ◌++◌, ◌∷◌, [], IfOk, IsOk, Some, drop, false, length, min, option_map, take};
+ghost use Rattle.server_limits.specs.Access.{Inserts, SameNetworks};
 ghost use Rattle.name_lists.specs.Counts.{Counts};
-ghost use Rattle.served_keys.specs.ServedKeys.{IsKeyName, all_networks};
-ghost use Rattle.served_updates.specs.declared.grants.Grant.{Grant};
-ghost use Rattle.served_zones.specs.ServedZones.{IsLoadedAs};
-ghost use Rattle.served_zones.specs.declared.parents.Loaded.{Loaded};
+ghost use Rattle.served_keys.specs.ServedKeys.{AreKeysOfFile, IsKeyNamed, all_networks};
+ghost use Rattle.served_zones.specs.Grants.{IsGrantOf};
+ghost use Rattle.served_zones.specs.ServedZones.{IsLoadedAs, IsZoneOfFile};
+ghost use Rattle.served_zones.specs.declared.grants.Grant.{Grant};
 ghost use Rattle.server_reports.specs.Exposition.{exposition_of};
 ghost use Rattle.server_settings.specs.Settings.{IsConfiguration};
 ghost use Rattle.server.specs.Calls.{ToldOfMessage};
@@ -16,8 +16,10 @@ ghost use Rattle.server.specs.Frames.{ArePut};
 ghost use Rattle.server.specs.Limited.{AreLimitsOf, IsLimited};
 ghost use Rattle.server.specs.Lists.{IsListOfText};
 ghost use Rattle.signed_server.specs.KeyedServers.{keyed_of};
+ghost use Rattle.server.specs.Networks.{InsertsText};
 ghost use Rattle.server.specs.Serving.{Stays, waiting_in};
-ghost use Rattle.server.specs.Updates.{AreKeys, AreServed, IsGrantOf};
+ghost use Rattle.server.specs.Settings.{IsUnset, rules_of, with_identifier, with_keys, with_rules, with_transfer_keys, with_zones, zones_of};
+ghost use Rattle.server.specs.Updates.{AreServed};
 ghost use Rattle.wire_names.specs.rr.domain.DomainName.{DomainName};
 
 use hickory_server::zone_handler::{ReplySigner, ZoneHandler};
@@ -37,7 +39,7 @@ use std::alloc::{AllocError, Global};
 const FAULT: u32 = 7;
 
 /// Puts the front of a text that there is room for: how many bytes it has.
-fn put_text(out: &mut [u8], text: &[u8]) -> usize
+pub(crate) fn put_text(out: &mut [u8], text: &[u8]) -> usize
     ensures len { length out.new ≡ length out.old }
     ensures count { result ≡ min (length text.now) (length out.new) }
     ensures put { take result out.new ≡ take result text.now }
@@ -48,7 +50,12 @@ fn put_text(out: &mut [u8], text: &[u8]) -> usize
 }
 
 /// Tells what a setting came to: puts the text of its fault, as far as there is room, and its length.
-fn told(alloc: Global, set: Result<(), SettingFault>, fault: &mut [u8], count: &mut usize) -> u32
+pub(crate) fn told(
+    alloc: Global,
+    set: Result<(), SettingFault>,
+    fault: &mut [u8],
+    count: &mut usize,
+) -> u32
     ensures done { (result ≡ 0) ↔ IsOk set }
     ensures count { count.new ≤ length fault.new }
 {
@@ -66,8 +73,8 @@ fn told(alloc: Global, set: Result<(), SettingFault>, fault: &mut [u8], count: &
     }
 }
 
-/// What of a list was skipped, as a text: how many lines, and the numbers of the first three. It is empty where none
-/// was.
+/// What of a list was skipped, as a text: how many lines, and the numbers of the first three. It is empty if none was. No
+/// clause says what is printed.
 fn skipped(alloc: Global, report: &ListReport) -> Result<String, AllocError> {
     let lines = report.skipped();
     match report.first_skipped() {
@@ -104,7 +111,7 @@ fn told_of_list(
 }
 
 /// Puts a text that says why something is not taken, as far as there is room.
-fn tell_fault(text: &str, fault: &mut [u8], count: &mut usize) -> u32
+pub(crate) fn tell_fault(text: &str, fault: &mut [u8], count: &mut usize) -> u32
     ensures told { result ≡ 7 }
     ensures count { count.new ≤ length fault.new }
 {
@@ -136,16 +143,22 @@ fn told_of_configuration(
 }
 
 /// Makes a server in a box.
-fn boxed(alloc: Global) -> Result<Box<Service>, AllocError> {
+fn boxed(alloc: Global) -> Result<Box<Service>, AllocError>
+    ensures { IfOk result (λ made. IsUnset made.value) }
+{
     match Box::new(alloc, Service::new(alloc)?) {
         Ok(service) => Ok(service),
         Err(_) => Err(AllocError),
     }
 }
 
-/// Makes a server without zones, which everybody may use, and puts its address.
+/// Makes a server without zones, which everybody may use, and puts its address. What C does with an address is outside
+/// of every clause; the server is one that [`boxed`] made.
 #[unsafe(no_mangle)]
-pub extern "C" fn zone_service_create(alloc: Global, service: &mut *mut u8) -> u32 {
+pub extern "C" fn zone_service_create(alloc: Global, service: &mut *mut u8) -> u32
+    ensures made { (result ≡ 0) ⊎ (result ≡ 4) }
+    ensures refused { result ≡ 4 → service.new ≡ service.old }
+{
     match boxed(alloc) {
         Ok(made) => {
             *service = address(made);
@@ -155,13 +168,14 @@ pub extern "C" fn zone_service_create(alloc: Global, service: &mut *mut u8) -> u
     }
 }
 
-/// Frees a server.
+/// Frees a server. Nothing remains of which a clause could speak.
 #[unsafe(no_mangle)]
 pub extern "C" fn zone_service_free(alloc: Global, service: Handle) {
     drop(service.into_box(alloc));
 }
 
-/// Has the names that a text lists blocked in each zone that is added later. Lines that are skipped are told.
+/// Blocks the names that a text lists in each zone that is added later. The text in `fault` says which lines are
+/// skipped.
 #[unsafe(no_mangle)]
 pub extern "C" fn zone_service_set_blocklist(
     alloc: Global,
@@ -178,7 +192,7 @@ pub extern "C" fn zone_service_set_blocklist(
     told_of_list(alloc, service.set_blocklist(alloc, text), fault, count)
 }
 
-/// Adds the zone of this name from the bytes of its file.
+/// Serves the zone of this name from the bytes of its file. It takes no updates before `zone_service_serve_zones`.
 #[unsafe(no_mangle)]
 pub extern "C" fn zone_service_add_zone(
     alloc: Global,
@@ -188,11 +202,12 @@ pub extern "C" fn zone_service_add_zone(
     fault: &mut [u8],
     count: &mut usize,
 ) -> u32
-    ensures made { result ≡ 0 → (loaded : Loaded) ×
-        (service.new.service.loaded.items ≡ service.old.service.loaded.items ++ loaded ∷ []) ×
-        IsLoadedAs name.now (option_map (λ it. it.value) service.old.service.list) loaded
-        service.old.service.added.zones service.new.service.added.zones }
-    ensures server { service.new.service.answering ≡ service.old.service.answering }
+    ensures made { result ≡ 0 → (apex : DomainName) ×
+        (service.new.service.apexes.items ≡ service.old.service.apexes.items ++ apex ∷ []) ×
+        IsLoadedAs (IsZoneOfFile text.now) name.now (option_map (λ it. it.value) service.old.service.list) apex
+        (zones_of service.old.service) (zones_of service.new.service) }
+    ensures others { service.new.service ≡ with_zones
+        (record service.old.service { apexes = service.new.service.apexes }) (zones_of service.new.service) }
 {
     let service = service.service();
     told(alloc, service.add_zone(alloc, name, text), fault, count)
@@ -207,8 +222,8 @@ pub extern "C" fn zone_service_set_keys(
     fault: &mut [u8],
     count: &mut usize,
 ) -> u32
-    ensures made { result ≡ 0 → AreKeys service.new.service.answering.server.keys }
-    ensures server { service.new.service.answering.server.server ≡ service.old.service.answering.server.server }
+    ensures made { result ≡ 0 → AreKeysOfFile text.now service.new.service.answering.server.keys }
+    ensures others { service.new.service ≡ with_keys service.old.service service.new.service.answering.server.keys }
 {
     let service = service.service();
     told(alloc, service.set_keys(alloc, text), fault, count)
@@ -224,11 +239,16 @@ pub extern "C" fn zone_service_allow_transfer_key(
     fault: &mut [u8],
     count: &mut usize,
 ) -> u32
-    ensures made { result ≡ 0 → (key : DomainName) × IsKeyName name.now key ×
+    ensures made { result ≡ 0 → (key : DomainName) × IsKeyNamed service.old.service.answering.server.keys name.now key ×
         (service.new.service.answering.server.transfer_keys.items ≡
         service.old.service.answering.server.transfer_keys.items ++ key ∷ []) ×
-        Inserts service.old.service.answering.server.server.rules.transfers.deny all_networks
-        service.new.service.answering.server.server.rules.transfers.deny }
+        Inserts (rules_of service.old.service).transfers.deny all_networks
+        (rules_of service.new.service).transfers.deny }
+    ensures allowed { SameNetworks (rules_of service.old.service).transfers.allow
+        (rules_of service.new.service).transfers.allow }
+    ensures others { service.new.service ≡ with_transfer_keys (with_rules service.old.service
+        (record (rules_of service.old.service) { transfers = (rules_of service.new.service).transfers }))
+        service.new.service.answering.server.transfer_keys }
 {
     let service = service.service();
     told(alloc, service.allow_transfer_key(alloc, name), fault, count)
@@ -247,14 +267,13 @@ pub extern "C" fn zone_service_allow_update(
     ensures made { result ≡ 0 → (grant : Grant) ×
         IsGrantOf service.old.service.answering.server.keys zone.now rule.now grant ×
         (service.new.service.grants.items ≡ service.old.service.grants.items ++ grant ∷ []) }
-    ensures server { service.new.service.answering ≡ service.old.service.answering }
+    ensures others { service.new.service ≡ record service.old.service { grants = service.new.service.grants } }
 {
     let service = service.service();
     told(alloc, service.allow_update(alloc, zone, rule), fault, count)
 }
 
-/// Serves the zones that were added: each beside the zone above it, if there is one, which has its DS records (RFC 4035
-/// section 3.1.4.1), and those of which there are rules with the updates that these grant.
+/// Gives the zones that were added their rules: a zone that has one takes the updates that its rules grant.
 #[unsafe(no_mangle)]
 pub extern "C" fn zone_service_serve_zones(
     alloc: Global,
@@ -263,15 +282,8 @@ pub extern "C" fn zone_service_serve_zones(
     count: &mut usize,
 ) -> u32
     ensures made { result ≡ 0 → AreServed service.old.service.answering.server.keys service.old.service.grants.items
-        service.old.service.loaded.items
-        (record {
-          fixed = service.old.service.added.zones;
-          updated = service.old.service.answering.server.server.catalog.zones;
-        })
-        (record {
-          fixed = service.new.service.added.zones;
-          updated = service.new.service.answering.server.server.catalog.zones;
-        }) }
+        service.old.service.apexes.items (zones_of service.old.service) (zones_of service.new.service) }
+    ensures others { service.new.service ≡ with_zones service.old.service (zones_of service.new.service) }
 {
     let service = service.service();
     told(alloc, service.serve_zones(alloc), fault, count)
@@ -286,9 +298,12 @@ pub extern "C" fn zone_service_set_allowed(
     fault: &mut [u8],
     count: &mut usize,
 ) -> u32
-    ensures made { result ≡ 0 → (network : Network) ×
-        Inserts service.old.service.answering.server.server.rules.access.allow
-        (network ∷ []) service.new.service.answering.server.server.rules.access.allow }
+    ensures made { result ≡ 0 → InsertsText network.now (rules_of service.old.service).access.allow
+        (rules_of service.new.service).access.allow }
+    ensures denied { SameNetworks (rules_of service.old.service).access.deny
+        (rules_of service.new.service).access.deny }
+    ensures others { service.new.service ≡ with_rules service.old.service
+        (record (rules_of service.old.service) { access = (rules_of service.new.service).access }) }
 {
     let service = service.service();
     told(alloc, service.allow(network), fault, count)
@@ -303,9 +318,12 @@ pub extern "C" fn zone_service_set_denied(
     fault: &mut [u8],
     count: &mut usize,
 ) -> u32
-    ensures made { result ≡ 0 → (network : Network) ×
-        Inserts service.old.service.answering.server.server.rules.access.deny
-        (network ∷ []) service.new.service.answering.server.server.rules.access.deny }
+    ensures made { result ≡ 0 → InsertsText network.now (rules_of service.old.service).access.deny
+        (rules_of service.new.service).access.deny }
+    ensures allowed { SameNetworks (rules_of service.old.service).access.allow
+        (rules_of service.new.service).access.allow }
+    ensures others { service.new.service ≡ with_rules service.old.service
+        (record (rules_of service.old.service) { access = (rules_of service.new.service).access }) }
 {
     let service = service.service();
     told(alloc, service.deny(network), fault, count)
@@ -320,9 +338,12 @@ pub extern "C" fn zone_service_set_transfer_allowed(
     fault: &mut [u8],
     count: &mut usize,
 ) -> u32
-    ensures made { result ≡ 0 → (network : Network) ×
-        Inserts service.old.service.answering.server.server.rules.transfers.allow
-        (network ∷ []) service.new.service.answering.server.server.rules.transfers.allow }
+    ensures made { result ≡ 0 → InsertsText network.now (rules_of service.old.service).transfers.allow
+        (rules_of service.new.service).transfers.allow }
+    ensures denied { SameNetworks (rules_of service.old.service).transfers.deny
+        (rules_of service.new.service).transfers.deny }
+    ensures others { service.new.service ≡ with_rules service.old.service
+        (record (rules_of service.old.service) { transfers = (rules_of service.new.service).transfers }) }
 {
     let service = service.service();
     told(alloc, service.allow_transfer(network), fault, count)
@@ -337,9 +358,12 @@ pub extern "C" fn zone_service_set_transfer_denied(
     fault: &mut [u8],
     count: &mut usize,
 ) -> u32
-    ensures made { result ≡ 0 → (network : Network) ×
-        Inserts service.old.service.answering.server.server.rules.transfers.deny
-        (network ∷ []) service.new.service.answering.server.server.rules.transfers.deny }
+    ensures made { result ≡ 0 → InsertsText network.now (rules_of service.old.service).transfers.deny
+        (rules_of service.new.service).transfers.deny }
+    ensures allowed { SameNetworks (rules_of service.old.service).transfers.allow
+        (rules_of service.new.service).transfers.allow }
+    ensures others { service.new.service ≡ with_rules service.old.service
+        (record (rules_of service.old.service) { transfers = (rules_of service.new.service).transfers }) }
 {
     let service = service.service();
     told(alloc, service.deny_transfer(network), fault, count)
@@ -354,15 +378,17 @@ pub extern "C" fn zone_service_set_max_udp(
     fault: &mut [u8],
     count: &mut usize,
 ) -> u32
-    ensures made { result ≡ 0 → service.new.service.answering.server.server.rules ≡ record
-        service.old.service.answering.server.server.rules { max_udp = size } }
+    ensures taken { (result ≡ 0) ↔ (512 ≤ size) }
+    ensures made { result ≡ 0 → service.new.service ≡ with_rules service.old.service
+        (record (rules_of service.old.service) { max_udp = size }) }
+    ensures refused { result ≢ 0 → service.new.service ≡ service.old.service }
 {
     let service = service.service();
     told(alloc, service.set_max_udp(size), fault, count)
 }
 
-/// Sets how many replies over UDP a network of clients gets a second, and of how many above that one is truncated; all
-/// where the rate is 0.
+/// Sets how many replies over UDP a network of clients gets in a second, and of how many above that one is truncated. A
+/// rate of 0 is no limit.
 #[unsafe(no_mangle)]
 pub extern "C" fn zone_service_set_rate_limit(
     alloc: Global,
@@ -393,15 +419,14 @@ pub extern "C" fn zone_service_set_identifier(
     fault: &mut [u8],
     count: &mut usize,
 ) -> u32
-    ensures made { result ≡ 0 → service.new.service.answering.server.server.catalog ≡ record
-        service.old.service.answering.server.server.catalog { nsid = Some text.now } }
+    ensures made { result ≡ 0 → service.new.service ≡ with_identifier service.old.service (Some text.now) }
+    ensures refused { result ≢ 0 → service.new.service ≡ service.old.service }
 {
     let service = service.service();
     told(alloc, service.set_identifier(alloc, text), fault, count)
 }
 
-/// Has the next query with replies and then one in so many told by a line, which waits to be taken; none where that is
-/// 0.
+/// Logs the next query with replies, and then one in so many, by a line that waits to be taken. After 0 none is logged.
 #[unsafe(no_mangle)]
 pub extern "C" fn zone_service_set_query_log(service: &mut Handle, every: u32)
     ensures { service.new.service ≡ record service.old.service {
@@ -412,7 +437,7 @@ pub extern "C" fn zone_service_set_query_log(service: &mut Handle, every: u32)
     service.service().answering.log.set(every);
 }
 
-/// Writes lines that tell queries, as many of their bytes as there is room for, and says how many.
+/// Writes lines of logged queries, as many of their bytes as there is room for, and says how many.
 #[unsafe(no_mangle)]
 pub extern "C" fn zone_service_take_log(service: &mut Handle, out: &mut [u8]) -> usize
     ensures within { result ≤ length out.new }
@@ -425,7 +450,7 @@ pub extern "C" fn zone_service_take_log(service: &mut Handle, out: &mut [u8]) ->
     service.service().answering.log.take(out)
 }
 
-/// Answers a message: writes its replies, each behind its length in two bytes, as many as there is room for, and says
+/// Answers a message: writes its replies, each after its length in two bytes, as many as there is room for, and says
 /// how many bytes they take and how many replies wait. The number says why there is none.
 #[unsafe(no_mangle)]
 pub extern "C" fn zone_service_answer(
@@ -484,7 +509,7 @@ pub extern "C" fn zone_service_answer(
     number
 }
 
-/// Answers the messages that stand whole at the front of a stream's bytes, each behind its length in two bytes, and
+/// Answers the messages that are whole at the front of a stream's bytes, each after its length in two bytes, and
 /// says how many bytes they are, how many bytes of replies were written, and how many replies wait. The number says why
 /// the last of them has none. Replies that waited before it are let go.
 #[unsafe(no_mangle)]
@@ -534,7 +559,7 @@ pub extern "C" fn zone_service_answer_stream(
     number
 }
 
-/// Writes replies to the last message that wait, each behind its length in two bytes, as many as there is room for, and
+/// Writes replies to the last message that wait, each after its length in two bytes, as many as there is room for, and
 /// says how many bytes they take, and how many replies wait still.
 #[unsafe(no_mangle)]
 pub extern "C" fn zone_service_take(
@@ -556,35 +581,6 @@ pub extern "C" fn zone_service_take(
     count_frames(&mut service.counters, false, &out[..written]);
     *waiting = service.answering.waiting();
     written
-}
-
-/// Counts a message of so many bytes that another server answered with this number, and replies that it gave, each
-/// behind its length in two bytes.
-#[unsafe(no_mangle)]
-pub extern "C" fn zone_service_count_answer(
-    service: &mut Handle,
-    size: usize,
-    stream: bool,
-    number: u32,
-    replies: &[u8],
-)
-    ensures counted { AnswerCounted stream size number replies.now service.old.service.counters
-        service.new.service.counters }
-    ensures others { service.new.service ≡ record service.old.service { counters = service.new.service.counters } }
-{
-    let service = service.service();
-    count_answer(&mut service.counters, stream, size, number, replies);
-}
-
-/// Counts more replies that another server gave, each behind its length in two bytes.
-#[unsafe(no_mangle)]
-pub extern "C" fn zone_service_count_replies(service: &mut Handle, replies: &[u8])
-    ensures counted { AreCounted (one_counted false) replies.now service.old.service.counters
-        service.new.service.counters }
-    ensures others { service.new.service ≡ record service.old.service { counters = service.new.service.counters } }
-{
-    let service = service.service();
-    count_frames(&mut service.counters, false, replies);
 }
 
 /// Tells what the server has done since it was made, in numbers.
@@ -616,8 +612,8 @@ pub extern "C" fn zone_service_statistics(
     DONE
 }
 
-/// Reads a configuration file in TOML: puts its settings, the name and the value of each with the byte 0 behind both,
-/// and how many bytes they are. `names` are the options that there are, each with the byte 0 behind it.
+/// Reads a configuration file in TOML: puts its settings, the name and the value of each with the byte 0 after both,
+/// and how many bytes they are. `names` are the options that there are, each with the byte 0 after it.
 #[unsafe(no_mangle)]
 pub extern "C" fn zone_service_read_settings(
     alloc: Global,

@@ -11,7 +11,7 @@ use Rattle.text_words.specs.Words.{AreSameWords, AreWordsTo, HasNoWords, StandOn
 use Rattle.text_words.specs.declared.error.TextError.{TextError}
 use Rattle.text_words.specs.declared.error.TextError.TheVariants as text
 use Rattle.record_text.specs.RecordText.{HasNone}
-use Rattle.service_text.specs.ServiceText.{ParametersOfWords}
+use Rattle.text_data.specs.ServiceText.{ParametersOfWords}
 use Rattle.record_text.proofs.SameWords.{same_spelled}
 use Rattle.zone_text.specs.declared.zone_file.entry.Before.{Before}
 use Rattle.zone_text.specs.declared.zone_file.fault.EntryError.{EntryError}

@@ -2,6 +2,7 @@
 pub mod Alone
 pub mod EnclosedBetween
 pub mod LastUpTo
+pub mod LentChains
 pub mod Lookups
 pub mod Nearest
 pub mod OneAnswer

@@ -106,6 +106,15 @@ pub data ZoneReplies {H : Type 0} (server : Server H) (chain : List H) (asked : 
       → GivenReplies server.signer asked.request edns result context replies
       → ZoneReplies server chain asked edns now replies
 
+-- The replies to a query from this chain, whichever zone is nearest to its name, with this EDNS, at this moment.
+pub data ChainReplies {H : Type 0} (server : Server H) (chain : List H) (request : ReceivedRequest) (edns : Option EdnsFields) (now : ℕ) (replies : List Reply) : Type 0 where
+  -- There is not just one question: FormErr.
+  other_count : {e : LookupError} → one_query request.message.queries.queries ≡ Err e
+      → replies ≡ error_reply request.message edns code_form_err ∷ [] → ChainReplies server chain request edns now replies
+  -- The chain answers the question.
+  asked : {query : Query} → one_query request.message.queries.queries ≡ Ok query
+      → ZoneReplies server chain (record { request = request; query = query }) edns now replies → ChainReplies server chain request edns now replies
+
 -- The replies to a query, with this EDNS, at this moment.
 pub data QueryReplies {H : Type 0} (server : Server H) (request : ReceivedRequest) (edns : Option EdnsFields) (now : ℕ) (replies : List Reply) : Type 0 where
   -- There is not just one question: FormErr.

@@ -21,7 +21,7 @@ use Rattle.hickory_base.specs.requests.Requests.{ReceivedRequest}
 use Rattle.hickory_base.specs.declared.requests.message_request.MessageRequest.{MessageRequest}
 use Rattle.hickory_base.specs.declared.zone_store.handler.ZoneHandler.{Ghosts}
 use Rattle.hickory_base.specs.zone_store.Lookups.{SignerContext}
-use Rattle.hickory_catalog.specs.queries.Queries.{QueryReplies}
+use Rattle.hickory_catalog.specs.queries.Queries.{ChainReplies, QueryReplies}
 use Rattle.hickory_catalog.specs.replies.Replies.{Contents, error_reply}
 use Rattle.hickory_catalog.specs.replies.ReplyEdns.{reply_edns, with_high_code}
 use Rattle.hickory_catalog.specs.requests.Requests.{RequestAnswered}
@@ -53,7 +53,12 @@ abbrev pub QueryRepliesFit : {S H : Type 0} → Ghosts H → (S → Signer) → 
 QueryRepliesFit {S} {H} handler signature_for = (catalog : Catalog S H) (request : ReceivedRequest) (edns : Option EdnsFields) (now : ℕ) (replies : List Reply)
     → QueryReplies (server_of handler signature_for catalog) request edns now replies → AllByRecursion (RepliesTo request.message edns) replies
 
--- So is each reply to an update, which is a request of opcode Update (RFC 2136 section 1.3),
+-- So is each reply to a query that a given chain answers,
+abbrev pub ChainRepliesFit : {S H : Type 0} → Ghosts H → (S → Signer) → Type 0
+ChainRepliesFit {S} {H} handler signature_for = (catalog : Catalog S H) (chain : List H) (request : ReceivedRequest) (edns : Option EdnsFields) (now : ℕ) (replies : List Reply)
+    → ChainReplies (server_of handler signature_for catalog) chain request edns now replies → AllByRecursion (RepliesTo request.message edns) replies
+
+-- each reply to an update, which is a request of opcode Update (RFC 2136 section 1.3),
 abbrev pub UpdateRepliesFit : {S H : Type 0} → Ghosts H → (S → Signer) → Type 0
 UpdateRepliesFit {S} {H} handler signature_for = (catalog : Catalog S H) (request : ReceivedRequest) (edns : Option EdnsFields) (now : ℕ) (reply : Reply) (zones : ZoneChains H)
     → request.message.metadata.op_code ≡ opcode_update

@@ -1,14 +1,16 @@
 -- Each zone is served as if it were the only one.
-use Rattle.std.specs.Prelude.{◌≡◌, ◌⊎◌, [], ◌∷◌, ℕ, List, Ok, Contains}
+use Rattle.std.specs.Prelude.{◌≡◌, ◌⊎◌, [], ◌∷◌, ℕ, List, Ok, Option, Contains}
 use Rattle.std.specs.Map.{keys_of}
 use Rattle.wire_names.specs.rr.domain.DomainName.{DomainName}
 use Rattle.wire_names.specs.rr.domain.NameOrder.{lower_name}
+use Rattle.wire_messages.specs.op.EdnsFields.{EdnsFields}
 use Rattle.wire_messages.specs.serialize.writing.Reply.{Reply}
 use Rattle.wire_messages.specs.declared.op.query.Query.{Query}
 use Rattle.hickory_base.specs.requests.Questions.{one_query}
 use Rattle.hickory_base.specs.requests.Requests.{ReceivedRequest}
 use Rattle.hickory_base.specs.declared.zone_store.handler.ZoneHandler.{Ghosts}
-use Rattle.hickory_catalog.specs.zones.Find.{IsNearest}
+use Rattle.hickory_catalog.specs.zones.Find.{IsNearest, MayAnswer}
+use Rattle.hickory_catalog.specs.queries.Queries.{ChainReplies, QueryReplies}
 use Rattle.hickory_catalog.specs.requests.Requests.{RequestAnswered}
 use Rattle.hickory_catalog.specs.requests.Server.{Server, server_of}
 use Rattle.hickory_catalog.specs.replies.Signing.{Signer}
@@ -32,6 +34,14 @@ ServedAlone {S} {H} handler signature_for = (catalog : Catalog S H) (request : R
     → AreInOrder catalog.zones → IsOfZone catalog.zones request zone
     → RequestAnswered (server_of handler signature_for catalog) request now replies after
     → (chain : List H) × RequestAnswered (alone (server_of handler signature_for catalog) zone) request now replies ((zone.0, chain) ∷ []) × Contains after (zone.0, chain)
+
+-- A query for a name that a zone may answer for has of the zone's chain the replies that it would have where that zone
+-- is the only one.
+abbrev pub ChainServedAlone : {S H : Type 0} → Ghosts H → (S → Signer) → Type 0
+ChainServedAlone {S} {H} handler signature_for = (catalog : Catalog S H) (request : ReceivedRequest) (query : Query) (edns : Option EdnsFields) (now : ℕ) (replies : List Reply) (zone : DomainName × List H)
+    → one_query request.message.queries.queries ≡ Ok query → MayAnswer zone.0 (lower_name query.name)
+    → ChainReplies (server_of handler signature_for catalog) zone.1 request edns now replies
+    → QueryReplies (alone (server_of handler signature_for catalog) zone) request edns now replies
 
 -- A request that is not to a zone leaves it as it was.
 abbrev pub OthersStay : {S H : Type 0} → Ghosts H → (S → Signer) → Type 0

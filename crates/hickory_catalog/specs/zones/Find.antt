@@ -26,6 +26,10 @@ Finds zones name (Some value) = (apex : DomainName) × IsNearest zones name (ape
 abbrev pub OneAnswers : Type 0 → Type 0
 OneAnswers V = (zones : List (DomainName × V)) (name : DomainName) (one other : Option V) → AreInOrder zones → Finds zones name one → Finds zones name other → one ≡ other
 
+-- Of zones in order one at most is the nearest to a name.
+abbrev pub OneNearest : Type 0 → Type 0
+OneNearest V = (zones : List (DomainName × V)) (name : DomainName) (one other : DomainName × V) → AreInOrder zones → IsNearest zones name one → IsNearest zones name other → one ≡ other
+
 -- Names that differ in letter case alone have the same answer.
 abbrev pub CaseDoesNotMatter : Type 0 → Type 0
 CaseDoesNotMatter V = (zones : List (DomainName × V)) (name other : DomainName) (found : Option V) → SameName name other → Finds zones name found → Finds zones other found

@@ -1,4 +1,5 @@
 -- What becomes of messages.
+pub mod Above
 pub mod BytesServed
 pub mod DecodedOutcomes
 pub mod Isolation

@@ -6,7 +6,7 @@ use Rattle.wire_messages.specs.serialize.writing.Reply.{Reply, size_limit}
 use Rattle.wire_messages.specs.declared.op.header.Header.{Header}
 use Rattle.wire_messages.specs.declared.op.query.Query.{Query}
 use Rattle.wire_messages.specs.declared.protocol.Protocol.{Protocol}
-use Rattle.access_control.specs.Access.{AccessSets}
+use Rattle.server_limits.specs.Access.{AccessSets}
 use Rattle.hickory_base.specs.requests.Questions.{QuestionSection}
 use Rattle.hickory_base.specs.requests.RepeatableQuestions.{AreRepeatable, HasRepeatableQuestions}
 use Rattle.hickory_base.specs.requests.Requests.{ReceivedRequest}

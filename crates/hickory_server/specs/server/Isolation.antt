@@ -2,7 +2,7 @@
 use Rattle.std.specs.Prelude.{◌≡◌, [], ◌∷◌, List, Contains}
 use Rattle.std.specs.Net.Socket.{socket_ip}
 use Rattle.wire_names.specs.rr.domain.DomainName.{DomainName}
-use Rattle.access_control.specs.Access.{AccessSets, IsAllowed}
+use Rattle.server_limits.specs.Access.{AccessSets, IsAllowed}
 use Rattle.hickory_base.specs.requests.Requests.{ReceivedRequest}
 use Rattle.hickory_base.specs.declared.zone_store.handler.ZoneHandler.{Ghosts}
 use Rattle.hickory_catalog.specs.requests.Alone.{IsOfZone, alone}

@@ -1,5 +1,5 @@
 -- What becomes of a message, by the rules of a server.
-use Rattle.std.specs.Prelude.{◌≡◌, ◌≤◌, ◌<◌, ◌∷◌, [], ℕ, List, length}
+use Rattle.std.specs.Prelude.{◌≡◌, ◌≤◌, ◌<◌, ◌∷◌, [], ℕ, List, None, length}
 use Rattle.std.specs.List.{AllZip}
 use Rattle.std.specs.declared.net.SocketAddr.{SocketAddr}
 use Rattle.wire_names.specs.rr.domain.DomainName.{DomainName}
@@ -10,11 +10,14 @@ use Rattle.wire_messages.specs.declared.protocol.Protocol.TheVariants.{Udp}
 use Rattle.hickory_base.specs.requests.RequestReading.{IsFaultOf}
 use Rattle.hickory_base.specs.requests.Requests.{ReceivedRequest}
 use Rattle.hickory_base.specs.responses.EncodingSinks.{IsEncodingOf}
+use Rattle.hickory_catalog.specs.queries.Queries.{ChainReplies}
 use Rattle.hickory_catalog.specs.replies.ReplyEdns.{reply_edns}
 use Rattle.hickory_catalog.specs.requests.Requests.{RequestAnswered}
 use Rattle.hickory_catalog.specs.requests.Server.{Server}
 use Rattle.hickory_catalog.specs.transfers.WholeTransfers.{TransferReplies}
+use Rattle.hickory_server.specs.server.Above.{FindsAbove, IsAskedAbove}
 use Rattle.hickory_server.specs.server.Fitted.{IsFitted}
+use Rattle.hickory_server.specs.server.FormErrors.{IsFormError}
 use Rattle.hickory_server.specs.server.Ruling.{IsResponse, IsRuling, MayUse, refusal, truncation, udp_limit}
 use Rattle.hickory_server.specs.server.Serving.{IsRequestOf, LeavesUnserved}
 use Rattle.hickory_server.specs.declared.server.answer.Answer.{Answer}
@@ -33,6 +36,16 @@ abbrev pub AreSent : Protocol → ℕ → List (List ℕ) → List (List ℕ) �
 AreSent Udp limit replies sent = AllZip (IsBounded limit) replies sent
 AreSent stream limit replies sent = sent ≡ replies
 
+-- The replies to a request that passes, at this moment, and the zones after it.
+pub data ZonesAnswer {H : Type 0} (server : Server H) (request : ReceivedRequest) (now : ℕ) (replies : List Reply) (zones : List (DomainName × List H)) : Type 0 where
+  -- It is for the DS records of an apex, and the server has a zone above it: that zone answers (RFC 4035 section
+  -- 3.1.4.1).
+  above : {zone : DomainName × List H} → IsAskedAbove server.zones request.message zone
+      → ChainReplies server zone.1 request (reply_edns server.identifier request.message.edns) now replies
+      → zones ≡ server.zones → ZonesAnswer server request now replies zones
+  -- Any other is answered as it is without rules.
+  own : FindsAbove server.zones request.message None → RequestAnswered server request now replies zones → ZonesAnswer server request now replies zones
+
 -- The replies to a request at the limit of its transport, by the rules, at this moment, and the zones after it.
 pub data RequestServed {H : Type 0} (rules : Rules) (server : Server H) (request : ReceivedRequest) (now : ℕ) (encoded : List (List ℕ)) (zones : List (DomainName × List H)) : Type 0 where
   refused : {bytes : List ℕ} → IsRuling rules request Refuse → IsEncodingOf request.protocol (refusal server request) bytes
@@ -42,7 +55,7 @@ pub data RequestServed {H : Type 0} (rules : Rules) (server : Server H) (request
   transferred : {replies : List Reply} → IsRuling rules request Transfer
       → TransferReplies server request (reply_edns server.identifier request.message.edns) now replies
       → AllZip (IsEncodingOf request.protocol) replies encoded → zones ≡ server.zones → RequestServed rules server request now encoded zones
-  passed : {replies : List Reply} → IsRuling rules request Pass → RequestAnswered server request now replies zones
+  passed : {replies : List Reply} → IsRuling rules request Pass → ZonesAnswer server request now replies zones
       → AllZip (IsEncodingOf request.protocol) replies encoded → RequestServed rules server request now encoded zones
 
 -- What becomes of a message, by the rules, and the zones after it: one of these, and no two.
@@ -54,9 +67,9 @@ pub data ServedBy {H : Type 0} (rules : Rules) (server : Server H) (message : In
   -- It is itself a response, and gets none: two servers would answer each other without end.
   response : MayUse rules message.src → 12 ≤ length message.bytes.items → IsResponse message.bytes.items → answer ≡ Response → zones ≡ server.zones
       → ServedBy rules server message answer zones
-  -- Its bytes begin with no message.
+  -- Its header can be read, and its body cannot.
   unreadable : {e : ProtoError} → MayUse rules message.src → 12 ≤ length message.bytes.items → ¬ (IsResponse message.bytes.items)
-      → IsFaultOf message.bytes.items e → answer ≡ Unreadable → zones ≡ server.zones → ServedBy rules server message answer zones
+      → IsFaultOf message.bytes.items e → IsFormError message.bytes.items answer → zones ≡ server.zones → ServedBy rules server message answer zones
   -- It is a request. Its replies are sent, over UDP within the limit of the server.
   request : {request : ReceivedRequest} {encoded sent : List (List ℕ)} → MayUse rules message.src
       → 12 ≤ length message.bytes.items → ¬ (IsResponse message.bytes.items) → IsRequestOf message request → RequestServed rules server request message.now encoded zones

@@ -6,7 +6,7 @@ use Rattle.wire_messages.specs.op.EdnsFields.{EdnsFields}
 use Rattle.wire_messages.specs.serialize.writing.Reply.{Reply}
 use Rattle.wire_messages.specs.declared.rr.rdata.RData.{RData}
 use Rattle.wire_messages.specs.declared.rr.record.Record.{Record}
-use Rattle.access_control.specs.Access.{AccessSets}
+use Rattle.server_limits.specs.Access.{AccessSets}
 use Rattle.hickory_base.specs.requests.Requests.{ReceivedRequest}
 use Rattle.hickory_base.specs.zone_store.ZoneAnswers.{MemoryZone}
 use Rattle.hickory_base.specs.zone_store.ZoneSets.{zone_records}
@@ -32,11 +32,11 @@ OfZone = DomainName → List (Record RData) → Type 0
 abbrev pub HoldsInAll : {V : Type 0} → OfZone → List (DomainName × List (UpdatableZone V)) → Type 0
 HoldsInAll Holds zones = All (λ zone. All (λ handler. HoldsIn Holds handler.zone) zone.1) zones
 
--- What is so of a zone is so of it once the records of an update section were done to it, as `update_records` does
--- them, with the increment of the serial or without.
+-- What is so of a zone is so of it once the records of an update section were done to it, as `update_records` and
+-- `update_records_by` do them, with the increment of the serial or without.
 abbrev pub RecordsKeep : OfZone → Type 0
-RecordsKeep Holds = (updates : List (Record RData)) (increments : Bool) (answer : Result Bool UpdateFault) (old new : MemoryZone)
-    → Updates (applied old.origin (zone_records old.sets) updates increments) answer old new → HoldsIn Holds old → HoldsIn Holds new
+RecordsKeep Holds = (by_rfc : Bool) (updates : List (Record RData)) (increments : Bool) (answer : Result Bool UpdateFault) (old new : MemoryZone)
+    → Updates (applied by_rfc old.origin (zone_records old.sets) updates increments) answer old new → HoldsIn Holds old → HoldsIn Holds new
 
 -- What is so of all zones of a catalog is so of them once it answered an update, whatever the answer,
 abbrev pub UpdatesKeep : {S V : Type 0} → Ghosts (UpdatableZone V) → (S → Signer) → OfZone → Type 0

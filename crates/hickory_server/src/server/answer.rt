@@ -9,7 +9,7 @@ pub enum Answer {
     Denied,
     /// It is itself a response, and gets none: two servers would answer each other without end.
     Response,
-    /// Its bytes are fewer than a header has, or begin with no message (RFC 1035 section 4.1). No reply is sent.
+    /// It is shorter than a header (RFC 1035 section 4.1.1). No reply is sent.
     Unreadable,
     /// The bytes of its replies, in the order in which they are sent. Only a transfer may have several.
     Replies(Items<Octets>),

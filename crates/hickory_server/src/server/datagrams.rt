@@ -1,113 +1,21 @@
 //! Replies over UDP: none is longer than the server's own limit, and none has records in answer to a transfer.
 
-ghost use Rattle.std.specs.Prelude.{◌≡◌, ◌≤◌, ◌<◌, [], All, IfOk, IsTrue, None, Some, length, max};
+ghost use Rattle.std.specs.Prelude.{◌≡◌, ◌≤◌, ◌<◌, All, IfOk, IsTrue, length};
 ghost use Rattle.std.specs.Option.{option_copied};
 ghost use Rattle.wire_messages.specs.serialize.writing.Reply.{size_limit};
 ghost use Rattle.wire_messages.specs.declared.op.header.Header.{Header};
 ghost use Rattle.hickory_wire.specs.serialize.writing.ReplyParts.{ReplyEncoded};
 ghost use Rattle.hickory_base.specs.responses.EncodingSinks.{IsEncodingOf};
-ghost use Rattle.hickory_catalog.specs.replies.ReplyEdns.{reply_edns};
 ghost use Rattle.hickory_server.specs.server.Fitted.{IsFitted, header_alone, id_of, without_signature};
 ghost use Rattle.hickory_server.specs.server.Ruling.{truncation};
 ghost use Rattle.hickory_server.specs.server.ServedBy.{AreSent, IsBounded};
-ghost use Rattle.hickory_server.specs.server.Written.{said};
 
+use crate::server::writing::{Contents, edns_of, encoded, without_records};
 use hickory_base::message_request::MessageRequest;
 use hickory_base::server::Request;
-use hickory_wire::encoder_laws::what_is_written_keeps_the_limit;
-use hickory_wire::{
-    Edns, Items, MessageType, Metadata, Octets, OpCode, ProtoError, Protocol, Record, ReplyParts,
-    encode_message_parts,
-};
+use hickory_wire::{Edns, Items, MessageType, Metadata, Octets, OpCode, ProtoError, Protocol};
 use std::alloc::{AllocError, Global};
 use std::net::SocketAddr;
-
-/// What a reply says. Its SOA record, if it has one, is among the authorities.
-#[derive(Drop)]
-pub(crate) struct Contents<'a> {
-    metadata: Metadata,
-    question: &'a [u8],
-    question_count: u16,
-    edns: Option<&'a Edns>,
-    answers: &'a [Record],
-    authorities: &'a [Record],
-    additionals: &'a [Record],
-}
-
-/// A reply without records.
-fn without_records<'a>(
-    metadata: Metadata,
-    question: &'a [u8],
-    question_count: u16,
-    edns: Option<&'a Edns>,
-) -> Contents<'a>
-    ensures { said result ≡ record {
-      metadata = metadata;
-      question = question.now;
-      question_count = question_count;
-      edns = option_copied
-          edns.entry;
-      answers = [];
-      authorities = [];
-      soa = [];
-      additionals = [];
-      signature = None;
-    } }
-{
-    Contents {
-        metadata,
-        question,
-        question_count,
-        edns,
-        answers: &[],
-        authorities: &[],
-        additionals: &[],
-    }
-}
-
-/// The bytes of a reply, with as many records as fit the limit.
-fn encoded(alloc: Global, contents: &Contents<'_>, limit: u16) -> Result<Octets, AllocError>
-    ensures reply { IfOk result (λ bytes. (header : Header) × ReplyEncoded limit (said contents.now) bytes header) }
-    ensures within { IfOk result (λ bytes. length bytes ≤ max limit 12) }
-{
-    what_is_written_keeps_the_limit();
-    let nothing: &[Record] = &[];
-    let parts = ReplyParts {
-        metadata: contents.metadata,
-        question: contents.question,
-        question_count: contents.question_count,
-        edns: contents.edns,
-        answers: contents.answers.iter(),
-        authorities: contents.authorities.iter(),
-        soa: nothing.iter(),
-        additionals: contents.additionals.iter(),
-        signature: None,
-    };
-    match encode_message_parts(alloc, limit, parts) {
-        Ok(made) => Ok(Octets::from_vec(made.1)),
-        Err(_) => Err(AllocError),
-    }
-}
-
-/// What the OPT record of a reply says to one that says this (RFC 6891 section 7).
-fn answered_edns(alloc: Global, asked: &Edns) -> Edns
-    ensures { Some result ≡ reply_edns None (Some asked.now) }
-{
-    let mut edns = Edns::new(alloc);
-    edns.set_max_payload(asked.max_payload());
-    edns.set_dnssec_ok(asked.dnssec_ok());
-    edns
-}
-
-/// What the OPT record of a reply says, where its request has one.
-fn edns_of(alloc: Global, message: &MessageRequest) -> Option<Edns>
-    ensures { result ≡ reply_edns None message.now.edns }
-{
-    match &message.edns {
-        None => None,
-        Some(asked) => Some(answered_edns(alloc, asked)),
-    }
-}
 
 /// How many bytes a reply over UDP may have that has this OPT record.
 fn payload(edns: Option<&Edns>) -> u16

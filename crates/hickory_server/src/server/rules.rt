@@ -1,9 +1,9 @@
 //! What a server holds every message to.
 
-ghost use Rattle.std.specs.Prelude.{◌≡◌, ◌≢◌, ◌↔◌, ℕ, Contains, IsTrue, MatchOption};
+ghost use Rattle.std.specs.Prelude.{◌≡◌, ◌≢◌, ◌↔◌, ℕ, Contains, IsTrue, MatchOption, false};
 ghost use Rattle.wire_messages.specs.declared.op.query.Query.{Query};
-ghost use Rattle.access_control.specs.Access.{Network};
-ghost use Rattle.hickory_server.specs.server.Ruling.{IsIncremental, IsOfServedClass, IsQuery, IsResponse, IsRuling, IsTransfer, udp_limit};
+ghost use Rattle.server_limits.specs.Access.{Network};
+ghost use Rattle.hickory_server.specs.server.Ruling.{Asks, AsksForTransfer, IsIncremental, IsOfServedClass, IsQuery, IsRefusedUpdate, IsResponse, IsRuling, IsTransfer, udp_limit};
 
 use hickory_base::access::AccessControl;
 use hickory_base::message_request::MessageRequest;
@@ -25,7 +25,7 @@ pub struct Rules {
 /// What the rules make of a request.
 #[derive(Clone, Copy, Debug, PartialEq, Eq)]
 pub enum Ruling {
-    /// It is answered Refused, and no zone is asked.
+    /// It is answered Refused, or NotAuth if it is an update. No zone is asked.
     Refuse,
     /// It is answered with TC and no records, and no zone is asked.
     Truncate,
@@ -45,23 +45,33 @@ pub(crate) fn is_response(bytes: &[u8]) -> bool
     }
 }
 
-/// The question of a query, if it has just one and its version of EDNS is known.
+/// The question of a request of this opcode, if it has exactly one and its version of EDNS is known.
 // speed: served, an address
 #[inline(always)]
-fn question_of(message: &MessageRequest) -> Option<&LowerQuery>
-    ensures { MatchOption result ((query : Query) → ¬ (IsQuery message.now query))
-        (λ query. IsQuery message.now query.now) }
+fn question_with(message: &MessageRequest, op_code: OpCode) -> Option<&LowerQuery>
+    ensures { MatchOption result ((query : Query) → ¬ (Asks message.now op_code query))
+        (λ query. Asks message.now op_code query.now) }
 {
     if message.version() != 0 || message.metadata.message_type != MessageType::Query {
         return None;
     }
-    if message.metadata.op_code != OpCode::QUERY {
+    if message.metadata.op_code != op_code {
         return None;
     }
     match message.queries.queries() {
         [query] => Some(query),
         _ => None,
     }
+}
+
+/// The question of a query, if it has exactly one and its version of EDNS is known.
+// speed: served, an address
+#[inline(always)]
+pub(crate) fn question_of(message: &MessageRequest) -> Option<&LowerQuery>
+    ensures { MatchOption result ((query : Query) → ¬ (IsQuery message.now query))
+        (λ query. IsQuery message.now query.now) }
+{
+    question_with(message, OpCode::QUERY)
 }
 
 /// Whether a question is of a class that is served: IN, or ANY.
@@ -76,6 +86,27 @@ fn is_transfer(query: &LowerQuery) -> bool
     ensures { IsTrue result ↔ IsTransfer query.now }
 {
     query.query_type() == RecordType::AXFR || query.query_type() == RecordType::IXFR
+}
+
+/// Whether a message is an update of a zone of another class than IN (RFC 2136 section 3.1.1).
+fn is_refused_update(message: &MessageRequest) -> bool
+    ensures refused { IsTrue result → (zone : Query) × IsRefusedUpdate message.now zone }
+    ensures passed { result ≡ false → (zone : Query) → ¬ (IsRefusedUpdate message.now zone) }
+{
+    match question_with(message, OpCode::UPDATE) {
+        Some(zone) => { zone.query_type() == RecordType::SOA && zone.query_class() != DNSClass::IN }
+        None => false,
+    }
+}
+
+/// Whether a message is a query for a transfer (AXFR or IXFR).
+pub fn asks_for_transfer(message: &MessageRequest) -> bool
+    ensures { IsTrue result ↔ AsksForTransfer message.now }
+{
+    match question_of(message) {
+        Some(query) => is_transfer(query),
+        None => false,
+    }
 }
 
 /// What becomes of a question for a transfer whose asker may have it: what changed in a zone is asked of its handlers
@@ -145,6 +176,7 @@ impl Rules {
     {
         match question_of(request.message()) {
             Some(query) => self.ruling_of(request, query),
+            None if is_refused_update(request.message()) => Ruling::Refuse,
             None => Ruling::Pass,
         }
     }

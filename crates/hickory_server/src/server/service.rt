@@ -1,6 +1,6 @@
 //! A server: the rules that it holds messages to, and the zones that it answers for.
 
-ghost use Rattle.std.specs.Prelude.{◌≡◌, ◌∷◌, [], List, ℕ, IfErr, IfOk, Ok, OnOk};
+ghost use Rattle.std.specs.Prelude.{◌≡◌, ◌⊎◌, ◌∷◌, [], List, ℕ, IfErr, IfOk, MatchOption, None, Ok, OnOk};
 ghost use Rattle.std.specs.List.{AllZip};
 ghost use Rattle.std.specs.Net.Socket.{socket_ip};
 ghost use Rattle.std.specs.Option.{option_copied};
@@ -11,12 +11,15 @@ ghost use Rattle.hickory_catalog.specs.replies.Replies.{error_reply};
 ghost use Rattle.hickory_catalog.specs.replies.ReplyEdns.{reply_edns};
 ghost use Rattle.hickory_catalog.specs.requests.Server.{server_of};
 ghost use Rattle.hickory_catalog.specs.transfers.WholeTransfers.{TransferReplies};
-ghost use Rattle.hickory_server.specs.server.Ruling.{IsQuery, IsRuling, refusal, udp_limit};
+ghost use Rattle.hickory_server.specs.server.Above.{FindsAbove};
+ghost use Rattle.hickory_server.specs.server.Ruling.{IsQuery, IsRuling, IsUpdate, code_of_refusal, refusal, udp_limit};
 ghost use Rattle.hickory_server.specs.server.ServedBy.{AreSent, BytesServed, LeavesBytes, RequestServed, arrival};
 ghost use Rattle.hickory_server.specs.server.Serving.{LeavesRequest};
 
+use crate::server::above::{ds_name, replies_from_above};
 use crate::server::answer::Answer;
 use crate::server::datagrams::{are_as_sent, sent, truncated};
+use crate::server::form_error::form_error;
 use crate::server::no_keys::NoKeys;
 use crate::server::rules::{Rules, Ruling, is_response};
 use crate::server::serve::{ServeError, replies_to};
@@ -46,17 +49,18 @@ fn copied(alloc: Global, nsid: Option<&NSIDPayload>) -> Result<Option<NSIDPayloa
     }
 }
 
-/// The reply to a query that is refused. It is that of a catalog without zones.
+/// The reply to a request that is refused. It is that of a catalog without zones.
 fn refused(
     alloc: Global,
     nsid: Option<&NSIDPayload>,
     request: &Request,
     now: u64,
 ) -> Result<Items<Octets>, AllocError>
-    requires { (query : Query) × IsQuery request.now.message query }
+    requires { (query : Query) × (IsQuery request.now.message query ⊎ IsUpdate request.now.message query) }
     ensures { IfOk result (λ encoded. (bytes : List ℕ) × (encoded ≡ bytes ∷ []) ×
         IsEncodingOf request.now.protocol
-        (error_reply request.now.message (reply_edns (option_copied nsid.entry) request.now.message.edns) 5) bytes) }
+        (error_reply request.now.message (reply_edns (option_copied nsid.entry) request.now.message.edns)
+        (code_of_refusal request.now.message)) bytes) }
 {
     let mut nothing: Catalog<NoKeys, InMemoryZoneHandler> = Catalog::new(alloc, NoKeys);
     nothing.set_nsid(copied(alloc, nsid)?);
@@ -179,7 +183,7 @@ fn unhandled<T: Drop>(made: Result<T, AllocError>) -> Result<T, ServeError>
     }
 }
 
-/// What is sent to a request that passes, in the memory of these other replies.
+/// What is sent to a request that passes and asks no zone above, in the memory of these other replies.
 #[inline(never)]
 fn passed<S: ReplySigner, H: ZoneHandler>(
     alloc: Global,
@@ -189,7 +193,8 @@ fn passed<S: ReplySigner, H: ZoneHandler>(
     now: u64,
     spare: Items<Octets>,
 ) -> Result<Items<Octets>, ServeError>
-    requires { IsRuling rules.now request.now Ruling.Pass }
+    requires passes { IsRuling rules.now request.now Ruling.Pass }
+    requires not_above { FindsAbove catalog.old.zones request.now.message None }
     ensures others { catalog.new ≡ record catalog.old { zones = catalog.new.zones } }
     ensures ok { IfOk result (λ sent. (encoded : List (List ℕ)) ×
         RequestServed rules.now (server_of H.ZoneHandler S.signature_for catalog.old) request.now now encoded
@@ -207,6 +212,52 @@ fn passed<S: ReplySigner, H: ZoneHandler>(
     match sent(alloc, request, limit, replies) {
         Ok(sent) => Ok(sent),
         Err(_) => Err(ServeError::MemoryAfterHandling),
+    }
+}
+
+/// What is sent to a request that passes and asks a zone above, if it asks one.
+fn from_above<S: ReplySigner, H: ZoneHandler>(
+    alloc: Global,
+    rules: &Rules,
+    catalog: &Catalog<S, H>,
+    request: &Request,
+    now: u64,
+) -> Result<Option<Items<Octets>>, AllocError>
+    requires { IsRuling rules.now request.now Ruling.Pass }
+    ensures { IfOk result (λ answer. MatchOption answer (FindsAbove catalog.now.zones request.now.message None)
+        (λ sent. (encoded : List (List ℕ)) ×
+        RequestServed rules.now (server_of H.ZoneHandler S.signature_for catalog.now) request.now now encoded
+        catalog.now.zones ×
+        AreSent request.now.protocol (udp_limit rules.now) encoded sent)) }
+{
+    let Some(replies) = replies_from_above(alloc, catalog, request, now)? else {
+        return Ok(None);
+    };
+    Ok(Some(sent(alloc, request, rules.udp_limit(), replies)?))
+}
+
+/// What is sent to a request that passes and may ask a zone above.
+#[inline(never)]
+fn passed_above<S: ReplySigner, H: ZoneHandler>(
+    alloc: Global,
+    rules: &Rules,
+    catalog: &mut Catalog<S, H>,
+    request: &Request,
+    now: u64,
+) -> Result<Items<Octets>, ServeError>
+    requires { IsRuling rules.now request.now Ruling.Pass }
+    ensures others { catalog.new ≡ record catalog.old { zones = catalog.new.zones } }
+    ensures ok { IfOk result (λ sent. (encoded : List (List ℕ)) ×
+        RequestServed rules.now (server_of H.ZoneHandler S.signature_for catalog.old) request.now now encoded
+        catalog.new.zones ×
+        AreSent request.now.protocol (udp_limit rules.now) encoded sent) }
+    ensures err { IfErr result (λ e. (sink : EncodedReplies) ×
+        LeavesRequest (server_of H.ZoneHandler S.signature_for catalog.old) request.now now sink e catalog.new.zones) }
+{
+    match from_above(alloc, rules, catalog, request, now) {
+        Ok(Some(sent)) => Ok(sent),
+        Ok(None) => passed(alloc, rules, catalog, request, now, Items::new(alloc)),
+        Err(_) => Err(ServeError::Memory),
     }
 }
 
@@ -228,7 +279,7 @@ fn ruled<S: ReplySigner, H: ZoneHandler>(
         LeavesRequest (server_of H.ZoneHandler S.signature_for catalog.old) request.now now sink e catalog.new.zones) }
 {
     match rules.ruling(request) {
-        Ruling::Pass => passed(alloc, rules, catalog, request, now, Items::new(alloc)),
+        Ruling::Pass => passed_above(alloc, rules, catalog, request, now),
         Ruling::Refuse => unhandled(refuse(alloc, rules, catalog, request, now)),
         Ruling::Truncate => unhandled(truncate(alloc, rules, catalog, request, now)),
         Ruling::Transfer => unhandled(transferred(alloc, rules, catalog, request, now)),
@@ -255,7 +306,10 @@ fn answered<S: ReplySigner, H: ZoneHandler>(
         LeavesRequest (server_of H.ZoneHandler S.signature_for catalog.old) request.now now sink e catalog.new.zones) }
 {
     match rules.ruling(request) {
-        Ruling::Pass => passed(alloc, rules, catalog, request, now, spare),
+        Ruling::Pass => match ds_name(request.message()) {
+            None => passed(alloc, rules, catalog, request, now, spare),
+            Some(_) => passed_above(alloc, rules, catalog, request, now),
+        },
         _ => ruled(alloc, rules, catalog, request, now),
     }
 }
@@ -301,11 +355,14 @@ impl<S: ReplySigner, H: ZoneHandler> Server<S, H> {
     /// Serves one message, which came from this address over this transport, at this moment in seconds since 1970: what
     /// becomes of it. Only an update changes the catalog.
     ///
-    /// A message whose address may not use the server is denied; one that is shorter than a header, or begins with no
-    /// message, is unreadable; one with QR set is a response. None of these has a reply. A query of another class than
-    /// IN and ANY is answered Refused, and so is one for a transfer (AXFR, IXFR) from an address that may have none; a
-    /// whole zone (AXFR) that is asked for over UDP is answered with TC and no records (RFC 5936 section 4.2), and a
-    /// query for what changed in a zone (IXFR) by what its handlers give as a transfer (RFC 1995 sections 2 and 4).
+    /// A message whose address may not use the server is denied. One that is shorter than a header is unreadable, and
+    /// one with QR set is a response. None of these has a reply. Any other message whose body cannot be read is
+    /// answered FormErr. An update of a zone of another class than IN is answered NotAuth (RFC 2136 section 3.1.1). A
+    /// query of another class than IN and ANY is answered Refused, and so is one for a transfer (AXFR, IXFR) from an
+    /// address that may have none. A query for a whole zone (AXFR) over UDP is answered with TC and no records (RFC
+    /// 5936 section 4.2). A query for what changed in a zone (IXFR) is answered by what its handlers give as a transfer
+    /// (RFC 1995 sections 2 and 4). A query for the DS records of the apex of a zone is answered by the zone above it,
+    /// if the server has one (RFC 4035 section 3.1.4.1), and else by that zone itself.
     /// Over UDP no reply is longer than the client takes, nor than the limit of the rules.
     ///
     /// # Errors
@@ -367,7 +424,7 @@ impl<S: ReplySigner, H: ZoneHandler> Server<S, H> {
         match self.request.read_in_place(alloc, bytes, src, protocol) {
             Ok(()) => {}
             Err(ProtoError::Memory) => return Err(ServeError::Memory),
-            Err(_) => return Ok(Answer::Unreadable),
+            Err(_) => return form_error(alloc, bytes),
         }
         let catalog = &mut self.catalog;
         match answered(alloc, &self.rules, catalog, &self.request, now, spare) {

@@ -1,22 +1,13 @@
-//! Laws of zones that answer standard queries and of zones that take updates, each the contract of a function with
-//! nothing to do.
+//! Laws of zones that take updates, each the contract of a function with nothing to do.
 
 ghost use Rattle.hickory_store.specs.updates.UpdateLaws.{CnamesAlone, HasNs, HasOneSoa};
 ghost use Rattle.hickory_server.specs.zone_handler.KeptZones.{AreKept};
-ghost use Rattle.hickory_server.specs.zone_handler.ZoneReplies.{TheReplyIsMade, TheReplyIsMadeBeside};
 
 use hickory_base::zone_store::ZoneHandler;
 use hickory_catalog::signer::ReplySigner;
 use hickory_store::updates::laws::{identities, updates_keep};
 use hickory_store::updates::{UpdatableZoneHandler, Verifier};
 use hickory_wire::record_comparisons;
-use hickory_zone::{AuthoritativeZone, ZoneWithParent};
-
-/// A server that holds the zone says what the zone replies to the question, as one whole reply, whatever the zone gave
-/// for it: the reply, records that lie in it, or a denial that the catalog puts the SOA to.
-pub fn replies_are_the_zones()
-    ensures { TheReplyIsMade ⟦<AuthoritativeZone as ZoneHandler>⟧ }
-{}
 
 /// Whatever is asked of zones that take updates, each keeps one SOA and an NS at its apex, and CNAMEs that are alone
 /// (RFC 2136 section 3.4.2): after `update_records`, with the increment or without, after an update of the catalog,
@@ -32,9 +23,3 @@ pub fn zones_keep<S: ReplySigner, V: Verifier>()
     record_comparisons();
     updates_keep::<V>();
 }
-
-/// A server that holds a zone beside the zone above it says, as one whole reply, what the zone above replies for the DS
-/// records of the apex (RFC 4035 section 3.1.4.1), and else what the zone itself replies, whatever was given for it.
-pub fn replies_beside_a_parent()
-    ensures { TheReplyIsMadeBeside ⟦<ZoneWithParent as ZoneHandler>⟧ }
-{}

@@ -8,6 +8,7 @@ pub mod KeptAtApex
 pub mod NamedSets
 pub mod NamesApart
 pub mod OneSoa
+pub mod OneTtl
 pub mod RecordByRecord
 pub mod RecordTurns
 pub mod ReplayedRuns

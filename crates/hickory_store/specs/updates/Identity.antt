@@ -6,6 +6,7 @@ use Rattle.wire_names.specs.rr.domain.NameOrder.{encloses, name_eq}
 use Rattle.wire_messages.specs.contracts.rr.rdata.RDataPartialEq.TheImpl as by_data
 use Rattle.wire_messages.specs.declared.rr.rdata.RData.{RData}
 use Rattle.wire_messages.specs.declared.rr.record.Record.{Record}
+use Rattle.hickory_base.specs.zone_store.ZoneRecords.{rrset}
 
 -- data of one type that are equal field by field, names in any letter case, as `==` compares them
 abbrev pub same_data : RData → RData → Bool
@@ -23,6 +24,10 @@ ttl_at (r ∷ rs) q = cond (same_record q r) (Some r.ttl) (ttl_at rs q)
 -- Two lists of records stand for one zone: each identity has the same TTL in both, or is in neither.
 abbrev pub SameZone : List (Record RData) → List (Record RData) → Type 0
 SameZone zone other = (q : Record RData) → ttl_at zone q ≡ ttl_at other q
+
+-- Each RRset (RFC 2181 section 5) has the same records in both lists, in the same order.
+abbrev pub SameRrsets : List (Record RData) → List (Record RData) → Type 0
+SameRrsets zone other = (name : DomainName) (record_type : ℕ) → rrset zone name record_type ≡ rrset other name record_type
 
 -- The name is the zone's origin, or below it, whatever is delegated (`zone_of` in RFC 2136 sections 3.2.5 and 3.4.1.3).
 abbrev pub is_in_zone : DomainName → DomainName → Bool

@@ -1,6 +1,6 @@
 -- Updates name by name: each record of an update section concerns the records of its own owner name alone (RFC 2136
 -- section 3.4.2).
-use Rattle.std.specs.Prelude.{◌≡◌, cond, List, filter, Option, Some, None}
+use Rattle.std.specs.Prelude.{◌≡◌, Bool, cond, List, filter, Option, Some, None}
 use Rattle.std.specs.BTreeMap.{BTreeMap, get}
 use Rattle.wire_names.specs.rr.domain.DomainName.{DomainName}
 use Rattle.wire_names.specs.rr.domain.NameOrder.{name_cmp, name_eq}
@@ -16,8 +16,8 @@ of_name name records = filter (is_at name) records
 -- What the updates leave of a name is what those of this name make of its records.
 abbrev pub UpdatesNameByName : Type 0
 UpdatesNameByName =
-    (origin name : DomainName) (updates zone : List (Record RData))
-    → of_name name (after_updates origin zone updates) ≡ after_updates origin (of_name name zone) (of_name name updates)
+    (by_rfc : Bool) (origin name : DomainName) (updates zone : List (Record RData))
+    → of_name name (after_updates by_rfc origin zone updates) ≡ after_updates by_rfc origin (of_name name zone) (of_name name updates)
 
 -- Records by owner name: of each name that is touched, all there are of it by now.
 abbrev pub ByName : Type 0

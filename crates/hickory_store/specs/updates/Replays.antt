@@ -32,7 +32,7 @@ abbrev pub Journalled : {V : Type 0} → Ghosts V → List TimedRequest → Upda
 Journalled by [] old new journal = (new ≡ old) × (journal ≡ [])
 Journalled {V} by (request ∷ requests) old new journal =
     (answer : UpdateResult) × (context : SignerContext) × (between : UpdatableZone V) × (entry : List (Record RData)) × (rest : List (Record RData))
-    × AnswersUpdate by old request answer context between
+    × AnswersUpdate false by old request answer context between
     × IsEntry (update_of request.0.message).updates answer between.zone entry
     × Journalled by requests between new rest
     × (journal ≡ entry ++ rest)
@@ -47,4 +47,4 @@ IsReplayable zone =
 abbrev pub Replays : {V : Type 0} → Ghosts V → Type 0
 Replays {V} by =
     (requests : List TimedRequest) (old new : UpdatableZone V) (journal : List (Record RData)) → Journalled by requests old new journal → IsReplayable old.zone
-    → SameZone (zone_records new.zone.sets) (after_updates old.zone.origin (zone_records old.zone.sets) journal)
+    → SameZone (zone_records new.zone.sets) (after_updates false old.zone.origin (zone_records old.zone.sets) journal)

@@ -1,6 +1,6 @@
--- Which records stand in a zone after one record of the update section, case by case (RFC 2136 sections 3.4.2.2 to
--- 3.4.2.4).
-use Rattle.std.specs.Prelude.{◌≡◌, ◌≢◌, ◌⊎◌, ◌↔◌, IsTrue, List, Contains, Some}
+-- Which records are in a zone after one record of the update section, case by case (RFC 2136 sections 3.4.2.2 to
+-- 3.4.2.4), by the rules of the Rust crate hickory-server.
+use Rattle.std.specs.Prelude.{◌≡◌, ◌≢◌, ◌⊎◌, ◌↔◌, false, IsTrue, List, Contains, Some}
 use Rattle.wire_names.specs.rr.domain.DomainName.{DomainName}
 use Rattle.wire_names.specs.rr.domain.NameOrder.{SameName}
 use Rattle.wire_messages.specs.Numbers.{class_any, class_in, class_none, type_any, type_cname, type_ns, type_soa}
@@ -74,4 +74,4 @@ HasUpdateClass r = (r.dns_class ≡ class_in) ⊎ ((r.dns_class ≡ class_any) �
 abbrev pub RecordsStandAfter : Type 0
 RecordsStandAfter =
     (origin : DomainName) (zone : List (Record RData)) (r q : Record RData) → HasUpdateClass r
-    → Contains (after_record origin zone r) q ↔ StandsAfter origin zone r q
+    → Contains (after_record false origin zone r) q ↔ StandsAfter origin zone r q

@@ -25,7 +25,9 @@ how_many test (x ∷ xs) = cond (test x) 1 0 + how_many test xs
 
 -- A zone with one SOA at its apex keeps one (RFC 2136 sections 3.4.2.2 to 3.4.2.4).
 abbrev pub SoaStays : Type 0
-SoaStays = (origin : DomainName) (updates zone : List (Record RData)) → how_many (is_apex_soa origin) zone ≡ 1 → how_many (is_apex_soa origin) (after_updates origin zone updates) ≡ 1
+SoaStays =
+    (by_rfc : Bool) (origin : DomainName) (updates zone : List (Record RData)) → how_many (is_apex_soa origin) zone ≡ 1
+    → how_many (is_apex_soa origin) (after_updates by_rfc origin zone updates) ≡ 1
 
 -- the record is an NS of the apex
 abbrev pub is_apex_ns : DomainName → Record RData → Bool
@@ -33,7 +35,9 @@ is_apex_ns origin q = is_at origin q && is_type type_ns q
 
 -- A zone with an NS at its apex keeps one (RFC 2136 sections 3.4.2.3 and 3.4.2.4).
 abbrev pub NsStays : Type 0
-NsStays = (origin : DomainName) (updates zone : List (Record RData)) → list_any (is_apex_ns origin) zone ≡ true → list_any (is_apex_ns origin) (after_updates origin zone updates) ≡ true
+NsStays =
+    (by_rfc : Bool) (origin : DomainName) (updates zone : List (Record RData)) → list_any (is_apex_ns origin) zone ≡ true
+    → list_any (is_apex_ns origin) (after_updates by_rfc origin zone updates) ≡ true
 
 abbrev pub has_cname : List (Record RData) → DomainName → Bool
 has_cname zone name = list_any (λ q. is_at name q && is_type type_cname q) zone
@@ -48,7 +52,9 @@ IsCnameAlone zone = (name : DomainName) → has_cname zone name ≡ true → has
 
 -- CNAMEs that are alone stay alone (RFC 2136 section 3.4.2.2).
 abbrev pub CnameStaysAlone : Type 0
-CnameStaysAlone = (origin : DomainName) (updates zone : List (Record RData)) → IsCnameAlone zone → IsCnameAlone (after_updates origin zone updates)
+CnameStaysAlone =
+    (by_rfc : Bool) (origin : DomainName) (updates zone : List (Record RData)) → IsCnameAlone zone
+    → IsCnameAlone (after_updates by_rfc origin zone updates)
 
 -- The SOA is that of the apex, and the apex has no other.
 abbrev pub IsOneSoa : DomainName → List (Record RData) → Record RData → Type 0
@@ -72,13 +78,16 @@ HoldsIn Holds zone = Holds zone.origin (zone_records zone.sets)
 -- What is so of a zone is so of it once a request was answered, with whatever answer, and once several were.
 abbrev pub Keeps : {V : Type 0} → Ghosts V → (DomainName → List (Record RData) → Type 0) → Type 0
 Keeps {V} by Holds =
-    ((request : TimedRequest) (answer : UpdateResult) (context : SignerContext) (old new : UpdatableZone V)
-    → AnswersUpdate by old request answer context new → HoldsIn Holds old.zone → HoldsIn Holds new.zone)
-    × ((requests : List TimedRequest) (old new : UpdatableZone V) → UpdatesAll by requests old new → HoldsIn Holds old.zone → HoldsIn Holds new.zone)
+    ((by_rfc : Bool) (request : TimedRequest) (answer : UpdateResult) (context : SignerContext) (old new : UpdatableZone V)
+    → AnswersUpdate by_rfc by old request answer context new → HoldsIn Holds old.zone → HoldsIn Holds new.zone)
+    × ((by_rfc : Bool) (requests : List TimedRequest) (old new : UpdatableZone V) → UpdatesAll by_rfc by requests old new
+    → HoldsIn Holds old.zone → HoldsIn Holds new.zone)
 
 -- Lists of records that stand for one zone before an update stand for one after it.
 abbrev pub UpdatesRespectSameness : Type 0
-UpdatesRespectSameness = (origin : DomainName) (updates zone other : List (Record RData)) → SameZone zone other → SameZone (after_updates origin zone updates) (after_updates origin other updates)
+UpdatesRespectSameness =
+    (by_rfc : Bool) (origin : DomainName) (updates zone other : List (Record RData)) → SameZone zone other
+    → SameZone (after_updates by_rfc origin zone updates) (after_updates by_rfc origin other updates)
 
 abbrev pub serials_in : RData → List ℕ
 serials_in (rdata.SOA soa) = soa.serial ∷ []
@@ -92,6 +101,7 @@ apex_serials origin zone = flat_map (λ q. cond (is_apex_soa origin q) (serials_
 -- added modulo 2^32 exactly where one of them changed the zone; and such an update is not refused.
 abbrev pub SerialSteps : Type 0
 SerialSteps =
-    (origin : DomainName) (updates zone : List (Record RData)) → how_many (is_apex_soa origin) zone ≡ 1
-    → (after : List (Record RData)) × (applied origin zone updates true ≡ Ok (after, any_change origin zone updates))
-    × (apex_serials origin after ≡ map (λ serial. cond (any_change origin zone updates) (next_serial serial) serial) (apex_serials origin (after_updates origin zone updates)))
+    (by_rfc : Bool) (origin : DomainName) (updates zone : List (Record RData)) → how_many (is_apex_soa origin) zone ≡ 1
+    → (after : List (Record RData)) × (applied by_rfc origin zone updates true ≡ Ok (after, any_change by_rfc origin zone updates))
+    × (apex_serials origin after
+    ≡ map (λ serial. cond (any_change by_rfc origin zone updates) (next_serial serial) serial) (apex_serials origin (after_updates by_rfc origin zone updates)))

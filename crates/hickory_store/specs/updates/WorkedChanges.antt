@@ -1,5 +1,5 @@
 -- Worked examples: what updates do to the zone of WorkedUpdates, written out by hand.
-use Rattle.std.specs.Prelude.{ℕ, Bool, List, [], ◌∷◌, codes}
+use Rattle.std.specs.Prelude.{ℕ, Bool, true, false, List, [], ◌∷◌, codes}
 use Rattle.wire_names.specs.rr.domain.DomainName.{DomainName}
 use Rattle.hickory_wire.specs.worked.Worked.{named, record_of}
 use Rattle.wire_messages.specs.Numbers.{class_any, class_in, class_none, type_any}
@@ -45,9 +45,9 @@ hosts = record_of www class_in 3600 (address 10) ∷ record_of www class_in 3600
 abbrev pub zone_at : ℕ → List (Record RData)
 zone_at serial = apex_soa serial ∷ ns ∷ apex_address 3600 ∷ hosts
 
--- what an update of it does, with the serial incremented or not
+-- what an update of it does, as in the crate, with the serial incremented or not
 abbrev pub updated : ℕ → List (Record RData) → Bool → Outcome
-updated serial updates increments = applied origin (zone_at serial) updates increments
+updated serial updates increments = applied false origin (zone_at serial) updates increments
 
 -- a CNAME, an address beside it, and then all of its name deleted
 abbrev pub comes_and_goes : List (Record RData)
@@ -56,3 +56,18 @@ comes_and_goes = record_of alias class_in 3600 (rdata.CNAME www) ∷ record_of a
 -- to delete the record with these data
 abbrev pub deletes : DomainName → RData → Record RData
 deletes name content = record_of name class_none 0 content
+
+-- www.example.com. with an address and this TTL
+abbrev pub www_with : ℕ → ℕ → Record RData
+www_with n ttl = record_of www class_in ttl (address n)
+
+-- the delegation of c.example.com.
+abbrev pub delegation : Record RData
+delegation = record_of alias class_in 3600 (rdata.NS server)
+
+-- what an update of a zone does, with the serial incremented, as in the crate and by the RFCs
+abbrev pub in_crate : List (Record RData) → List (Record RData) → Outcome
+in_crate zone updates = applied false origin zone updates true
+
+abbrev pub by_rfc : List (Record RData) → List (Record RData) → Outcome
+by_rfc zone updates = applied true origin zone updates true

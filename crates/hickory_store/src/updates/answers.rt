@@ -137,7 +137,7 @@ impl<V: Verifier> ZoneHandler for UpdatableZoneHandler<V> {
     ghost nsec3_gives = { λ _ _ _ answer. answer ≡ Skip };
 
     ghost update_gives = { λ old request now answer context new.
-        AnswersUpdate V.Verifier old (request, now) answer context new };
+        AnswersUpdate false V.Verifier old (request, now) answer context new };
 
     fn zone_type(&self) -> ZoneType {
         self.in_memory.zone_type()
@@ -260,6 +260,6 @@ impl<V: Verifier> ZoneHandler for UpdatableZoneHandler<V> {
         request: &Request,
         now: u64,
     ) -> (Result<bool, UpdateFault>, Option<TSigResponseContext>) {
-        self.update_by_request(alloc, request, now)
+        self.update_by(alloc, request, now, false)
     }
 }

@@ -8,7 +8,7 @@ ghost use Rattle.wire_messages.specs.declared.rr.rdata.RData.{RData as Data};
 ghost use Rattle.wire_messages.specs.declared.rr.record.Record.{Record as ResourceRecord};
 ghost use Rattle.hickory_base.specs.zone_store.ZoneSets.{AreDistinct, IsWellTyped, keys_at, sets_of, zone_records};
 ghost use Rattle.wire_messages.specs.rr.RrKeys.{key_cmp};
-ghost use Rattle.hickory_store.specs.updates.Identity.{SameZone};
+ghost use Rattle.hickory_store.specs.updates.Identity.{SameRrsets, SameZone};
 ghost use Rattle.hickory_store.specs.updates.NameUpdates.{AreNow};
 ghost use Rattle.hickory_store.specs.representation.SetChanges.{Makes, has_key, put_sets};
 
@@ -110,6 +110,9 @@ pub(crate) fn commit_changes(
     ensures done { OnOk result ((records : List (ResourceRecord Data)) →
         Makes (put_sets changes.puts.items) changes.gone.items zone.old.sets records →
         SameZone (zone_records zone.new.sets) records) }
+    ensures rrsets { OnOk result ((records : List (ResourceRecord Data)) →
+        Makes (put_sets changes.puts.items) changes.gone.items zone.old.sets records →
+        SameRrsets (zone_records zone.new.sets) records) }
     ensures others { zone.new ≡ record zone.old { sets = zone.new.sets } }
     ensures unchanged { OnErr result (zone.new ≡ zone.old) }
 {

@@ -1,11 +1,12 @@
 //! What one record of an update section does to the records of a zone, or of its name.
 
-ghost use Rattle.std.specs.Prelude.{◌≡◌, ◌&&◌, IfOk, OnOk, filter, not};
+ghost use Rattle.std.specs.Prelude.{◌≡◌, ◌==◌, ◌∷◌, [], ◌++◌, ◌&&◌, IfOk, OnOk, cond, filter, not};
 ghost use Rattle.std.specs.List.{list_any};
 ghost use Rattle.hickory_base.specs.zone_store.ZoneRecords.{is_at};
-ghost use Rattle.hickory_store.specs.updates.Changes.{changes, is_added, is_deleted_when, has_ttl, in_class, in_rrset, is_in_deleted_rrsets, is_ignored, is_newer, is_spared, adds_nothing_new, is_type, replaces_rrset, after_record};
+ghost use Rattle.hickory_store.specs.updates.Changes.{adds_nothing_new, after_counted, after_record, changes, counted_changes, has_other_ttl, has_ttl, in_class, in_rrset, is_added, is_deleted_when, is_ignored, is_in_deleted_rrsets, is_newer, is_spared, is_type, one_ttl, replaces_rrset};
 ghost use Rattle.hickory_store.specs.updates.Identity.{same_record, ttl_at};
 
+use crate::updates::laws::identities;
 use hickory_base::zone_store::serials::is_greater;
 use hickory_wire::{DNSClass, Name, RData, Record, RecordType};
 use std::alloc::AllocError;
@@ -93,13 +94,13 @@ fn replaces_rrset(r: &Record) -> bool
     is_type(RecordType::CNAME, r) || is_type(RecordType::SOA, r)
 }
 
-/// Whether the record is there with its TTL.
-fn has_with_ttl(records: &[Record], r: &Record) -> bool
-    ensures { result ≡ has_ttl r.now.ttl (ttl_at records.now r.now) }
+/// Whether the record is there with this TTL.
+fn has_with_ttl(records: &[Record], r: &Record, ttl: u32) -> bool
+    ensures { result ≡ has_ttl ttl (ttl_at records.now r.now) }
 {
     for q in records {
         if is_same(r, q) {
-            return q.ttl == r.ttl;
+            return q.ttl == ttl;
         }
     }
     false
@@ -112,18 +113,37 @@ fn has_other(records: &[Record], r: &Record) -> bool
     records.iter().any(|q| in_rrset(r, q) && !is_same(r, q))
 }
 
-/// Whether a record, were it added, would leave the zone as it is.
-fn adds_nothing_new(records: &[Record], r: &Record) -> bool
-    ensures { result ≡ adds_nothing_new records.now r.now }
+/// Whether the record's RRset has a record with another TTL, which is that of the first record that is the same. In a
+/// zone that is the record itself, so the second search is made only once.
+fn finds_other_ttl(records: &[Record], r: &Record) -> bool
+    ensures { result ≡ list_any (λ q. in_rrset r.now q &&
+        (not (q.ttl == r.now.ttl) && not (has_ttl r.now.ttl (ttl_at records.now q)))) records.now }
 {
-    has_with_ttl(records, r) && !(replaces_rrset(r) && has_other(records, r))
+    records.iter().any(|q| in_rrset(r, q) && (q.ttl != r.ttl && !has_with_ttl(records, q, r.ttl)))
+}
+
+/// Whether the record's RRset has a record with another TTL.
+fn has_other_ttl(records: &[Record], r: &Record) -> bool
+    ensures { result ≡ has_other_ttl records.now r.now }
+{
+    identities();
+    finds_other_ttl(records, r)
+}
+
+/// Whether a record, were it added, would leave the zone as it is.
+fn adds_nothing_new(by_rfc: bool, records: &[Record], r: &Record) -> bool
+    ensures { result ≡ adds_nothing_new by_rfc records.now r.now }
+{
+    has_with_ttl(records, r, r.ttl)
+        && (!(replaces_rrset(r) && has_other(records, r)) && !(by_rfc && has_other_ttl(records, r)))
 }
 
 /// Whether a record is added to the zone.
-fn is_added(records: &[Record], r: &Record) -> bool
-    ensures { result ≡ is_added records.now r.now }
+fn is_added(by_rfc: bool, records: &[Record], r: &Record) -> bool
+    ensures { result ≡ is_added by_rfc records.now r.now }
 {
-    r.dns_class == DNSClass::IN && (!is_ignored(records, r) && !adds_nothing_new(records, r))
+    r.dns_class == DNSClass::IN
+        && (!is_ignored(records, r) && !adds_nothing_new(by_rfc, records, r))
 }
 
 /// Whether a record of the zone is the one that a record of class NONE is to delete.
@@ -141,10 +161,12 @@ fn has_other_than_meant(records: &[Record], r: &Record) -> bool
 }
 
 /// Whether a record of class NONE is ignored.
-fn is_spared(records: &[Record], r: &Record) -> bool
-    ensures { result ≡ is_spared records.now r.now }
+fn is_spared(by_rfc: bool, origin: &Name, records: &[Record], r: &Record) -> bool
+    ensures { result ≡ is_spared by_rfc origin.now records.now r.now }
 {
-    is_type(RecordType::SOA, r) || (is_type(RecordType::NS, r) && !has_other_than_meant(records, r))
+    (!by_rfc || *origin == r.name)
+        && (is_type(RecordType::SOA, r)
+            || (is_type(RecordType::NS, r) && !has_other_than_meant(records, r)))
 }
 
 /// Whether a record of class ANY deletes a record of the zone.
@@ -192,25 +214,76 @@ fn take_out(origin: &Name, r: &Record, is_coming: bool, is_kept: bool, records: 
     records.retain(|q| !is_deleted(origin, r, is_coming, is_kept, q));
 }
 
-/// Does what one record of an update section says, and tells whether the zone changed. Where memory is refused, records
-/// may have been deleted.
-pub(crate) fn take_turn(
+/// Gives a record the TTL of another, if it is of the RRset of that.
+fn give_ttl(r: &Record, q: &mut Record)
+    ensures { q.new ≡ cond (in_rrset r.now q.old) (record q.old { ttl = r.now.ttl }) q.old }
+{
+    if in_rrset(r, q) {
+        q.ttl = r.ttl;
+    }
+}
+
+/// Gives the records of the record's RRset its TTL.
+fn give_one_ttl(r: &Record, records: &mut [Record])
+    ensures { records.new ≡ one_ttl r.now records.old }
+{
+    for q in records.iter_mut() {
+        give_ttl(r, q);
+    }
+}
+
+/// Adds a record.
+fn put_in(by_rfc: bool, records: &mut Vec<Record>, r: &Record) -> Result<(), AllocError>
+    ensures { OnOk result (records.new.items ≡ cond by_rfc (one_ttl r.now (records.old.items ++ r.now ∷ []))
+        (records.old.items ++ r.now ∷ [])) }
+{
+    let copy = r.clone()?;
+    records.push(copy)?;
+    if by_rfc {
+        give_one_ttl(r, records);
+    }
+    Ok(())
+}
+
+/// Does what one record of an update section says whose TTL counts, and reports whether the zone changed. If memory is
+/// refused, records may have been deleted.
+fn take_counted(
+    by_rfc: bool,
     origin: &Name,
     records: &mut Vec<Record>,
     r: &Record,
 ) -> Result<bool, AllocError>
-    ensures zone { OnOk result (records.new.items ≡ after_record origin.now records.old.items r.now) }
-    ensures changed { IfOk result (λ changed. changed ≡ changes origin.now records.old.items r.now) }
+    ensures zone { OnOk result (records.new.items ≡ after_counted by_rfc origin.now records.old.items r.now) }
+    ensures changed { IfOk result (λ changed.
+        changed ≡ counted_changes by_rfc origin.now records.old.items r.now) }
 {
-    let is_coming = is_added(records, r);
-    let is_kept = is_spared(records, r);
+    let is_coming = is_added(by_rfc, records, r);
+    let is_kept = is_spared(by_rfc, origin, records, r);
     let is_going = has_going(origin, r, is_coming, is_kept, records);
     take_out(origin, r, is_coming, is_kept, records);
     if is_coming {
-        let copy = r.clone()?;
-        records.push(copy)?;
+        put_in(by_rfc, records, r)?;
         Ok(true)
     } else {
         Ok(is_going)
     }
+}
+
+/// Does what one record of an update section says, and reports whether the zone changed. If memory is refused, records
+/// may have been deleted.
+pub(crate) fn take_turn(
+    by_rfc: bool,
+    origin: &Name,
+    records: &mut Vec<Record>,
+    r: &Record,
+) -> Result<bool, AllocError>
+    ensures zone { OnOk result (records.new.items ≡ after_record by_rfc origin.now records.old.items r.now) }
+    ensures changed { IfOk result (λ changed. changed ≡ changes by_rfc origin.now records.old.items r.now) }
+{
+    if by_rfc && r.ttl >= 0x8000_0000 {
+        let mut counted = r.clone()?;
+        counted.ttl = 0;
+        return take_counted(by_rfc, origin, records, &counted);
+    }
+    take_counted(by_rfc, origin, records, r)
 }

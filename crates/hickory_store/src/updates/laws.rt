@@ -25,7 +25,8 @@ pub fn identities()
 }
 
 /// After one record of an update section the zone has that record, if it is added, and the records that it had before
-/// and that this one does not delete, by the cases of RFC 2136 sections 3.4.2.2 to 3.4.2.4.
+/// and that this one does not delete, by the cases of RFC 2136 sections 3.4.2.2 to 3.4.2.4 and by the rules of the Rust
+/// crate hickory-server.
 pub fn records_stand_after()
     ensures { RecordsStandAfter }
 {

@@ -47,45 +47,48 @@ pub(crate) fn put_name(
     }
 }
 
-/// Does what one record of an update section says to its name, and tells whether the zone changed.
+/// Does what one record of an update section says to its name, and reports whether the zone changed.
 fn touch(
     alloc: Global,
+    by_rfc: bool,
     zone: &InMemoryZoneHandler,
     touched: &mut ByName,
     r: &Record,
 ) -> Result<bool, AllocError>
     ensures zone { OnOk result ((records : List (ResourceRecord Data)) →
         AreNow (zone_records zone.now.sets) touched.old records →
-        AreNow (zone_records zone.now.sets) touched.new (after_record zone.now.origin records r.now)) }
+        AreNow (zone_records zone.now.sets) touched.new (after_record by_rfc zone.now.origin records r.now)) }
     ensures changed { IfOk result (λ changed. (records : List (ResourceRecord Data)) →
-        AreNow (zone_records zone.now.sets) touched.old records → changed ≡ changes zone.now.origin records r.now) }
+        AreNow (zone_records zone.now.sets) touched.old records →
+        changed ≡ changes by_rfc zone.now.origin records r.now) }
 {
     let name = LowerName::new(alloc, &r.name)?;
     let mut records = take_name(alloc, zone, touched, &name)?;
     let origin = zone.origin().as_name();
-    let is_changed = take_turn(origin, &mut records, r)?;
+    let is_changed = take_turn(by_rfc, origin, &mut records, r)?;
     put_name(touched, name, records)?;
     Ok(is_changed)
 }
 
-/// Does what the records of an update section say, one after another, to the names that they touch, and tells whether
-/// the zone changed.
+/// Does what the records of an update section say, one after another, to the names that they touch, and reports
+/// whether the zone changed.
 pub(crate) fn touch_all(
     alloc: Global,
+    by_rfc: bool,
     zone: &InMemoryZoneHandler,
     touched: &mut ByName,
     updates: &[Record],
 ) -> Result<bool, AllocError>
     ensures zone { OnOk result ((records : List (ResourceRecord Data)) →
         AreNow (zone_records zone.now.sets) touched.old records →
-        AreNow (zone_records zone.now.sets) touched.new (after_updates zone.now.origin records updates.now)) }
+        AreNow (zone_records zone.now.sets) touched.new (after_updates by_rfc zone.now.origin records updates.now)) }
     ensures changed { IfOk result (λ changed. (records : List (ResourceRecord Data)) →
         AreNow (zone_records zone.now.sets) touched.old records →
-        changed ≡ any_change zone.now.origin records updates.now) }
+        changed ≡ any_change by_rfc zone.now.origin records updates.now) }
 {
     let mut changed = false;
     for r in updates {
-        let is_changed = touch(alloc, zone, touched, r)?;
+        let is_changed = touch(alloc, by_rfc, zone, touched, r)?;
         changed = changed | is_changed;
     }
     Ok(changed)

@@ -28,8 +28,13 @@ fn told_context(
 
 impl<V: Verifier> UpdatableZoneHandler<V> {
     /// Makes the update of a message that may be made.
-    fn update_by(&mut self, alloc: Global, message: &MessageRequest) -> Result<bool, UpdateFault>
-        ensures zone { Updates (message_outcome None self.old.zone (update_of message.now)) result self.old.zone
+    fn update_message(
+        &mut self,
+        alloc: Global,
+        message: &MessageRequest,
+        by_rfc: bool,
+    ) -> Result<bool, UpdateFault>
+        ensures zone { Updates (message_outcome by_rfc None self.old.zone (update_of message.now)) result self.old.zone
             self.new.zone }
         ensures others { self.new ≡ record self.old { zone = self.new.zone } }
         ensures untouched { IfOk result (λ changed. changed ≡ false → self.new ≡ self.old) }
@@ -38,25 +43,27 @@ impl<V: Verifier> UpdatableZoneHandler<V> {
             Err(fault) => Err(fault),
             Ok(()) => match self.pre_scan(message.updates()) {
                 Err(code) => Err(UpdateFault::Code(code)),
-                Ok(()) => self.update_records(alloc, message.updates(), true),
+                Ok(()) => self.update_records_by(alloc, message.updates(), true, by_rfc),
             },
         }
     }
 
-    /// Makes the update that a request asks for, with what the signer of the reply has to know.
-    pub(crate) fn update_by_request(
+    /// Makes the update that a request asks for (RFC 2136 section 3), with what the signer of the reply has to know.
+    /// `now` is in seconds since 1970. What `by_rfc` says, `update_records_by` has.
+    pub fn update_by(
         &mut self,
         alloc: Global,
         request: &Request,
         now: u64,
+        by_rfc: bool,
     ) -> (Result<bool, UpdateFault>, Option<TSigResponseContext>)
-        ensures { AnswersUpdate V.Verifier self.old (request.now, now) result.0 result.1 self.new }
+        ensures { AnswersUpdate by_rfc V.Verifier self.old (request.now, now) result.0 result.1 self.new }
     {
         let (permission, context) = self.authorize_update(alloc, request, now);
         match permission {
             Err(fault) => (Err(fault), context),
             Ok(()) => {
-                let answer = self.update_by(alloc, request.message());
+                let answer = self.update_message(alloc, request.message(), by_rfc);
                 let told = told_context(&answer, context);
                 (answer, told)
             }
@@ -65,10 +72,10 @@ impl<V: Verifier> UpdatableZoneHandler<V> {
 
     /// Makes the update that a request asks for. An error is want of memory, after which the handler is as it was.
     fn update_one(&mut self, alloc: Global, request: &Request, now: u64) -> Result<(), AllocError>
-        ensures { MatchResult result (λ _. UpdatesOne V.Verifier (request.now, now) self.old self.new)
+        ensures { MatchResult result (λ _. UpdatesOne false V.Verifier (request.now, now) self.old self.new)
             (λ _. self.new ≡ self.old) }
     {
-        let (answer, _) = self.update_by_request(alloc, request, now);
+        let (answer, _) = self.update_by(alloc, request, now, false);
         match answer {
             Err(UpdateFault::Memory) => Err(AllocError),
             _ => Ok(()),
@@ -84,9 +91,9 @@ impl<V: Verifier> UpdatableZoneHandler<V> {
     /// Where memory is refused, the error is how many requests had their turn before: what they made is done, and the
     /// request that wanted the memory and those behind it made nothing.
     pub fn update_all(&mut self, alloc: Global, requests: &[(Request, u64)]) -> Result<(), usize>
-        ensures all { IfOk result (λ _. UpdatesAll V.Verifier requests.now self.old self.new) }
+        ensures all { IfOk result (λ _. UpdatesAll false V.Verifier requests.now self.old self.new) }
         ensures some { IfErr result (λ n. (n < length requests.now) ×
-            UpdatesAll V.Verifier (take n requests.now) self.old self.new) }
+            UpdatesAll false V.Verifier (take n requests.now) self.old self.new) }
     {
         for (n, (request, now)) in requests.iter().enumerate() {
             let Ok(()) = self.update_one(alloc, request, *now) else {

@@ -102,19 +102,21 @@ fn increment_apex(
 /// The names that an update touches, with their records after it, or none where the zone stays as it is.
 fn updated(
     alloc: Global,
+    by_rfc: bool,
     zone: &InMemoryZoneHandler,
     updates: &[Record],
     increments: bool,
 ) -> Result<Option<ByName>, UpdateFault>
     ensures { MatchResult result (λ o.
-        MatchOption o (applied zone.now.origin (zone_records zone.now.sets) updates.now increments ≡ Ok
+        MatchOption o (applied by_rfc zone.now.origin (zone_records zone.now.sets) updates.now increments ≡ Ok
         (zone_records zone.now.sets, false)) (λ touched. (records : List (ResourceRecord Data)) ×
         AreNow (zone_records zone.now.sets) touched records ×
-        (applied zone.now.origin (zone_records zone.now.sets) updates.now increments ≡ Ok (records, increments))))
-        (λ e. IsRefused (applied zone.now.origin (zone_records zone.now.sets) updates.now increments) e) }
+        (applied by_rfc zone.now.origin (zone_records zone.now.sets) updates.now increments ≡ Ok
+        (records, increments))))
+        (λ e. IsRefused (applied by_rfc zone.now.origin (zone_records zone.now.sets) updates.now increments) e) }
 {
     let mut touched = BTreeMap::new(alloc);
-    let is_changed = touch_all(alloc, zone, &mut touched, updates)?;
+    let is_changed = touch_all(alloc, by_rfc, zone, &mut touched, updates)?;
     if increments {
         if !is_changed {
             return Ok(None);
@@ -153,13 +155,8 @@ fn read_serials(records: &[Record])
 }
 
 impl<V: Verifier> UpdatableZoneHandler<V> {
-    /// Does what the records of an update section say to the zone, one after another (RFC 2136 section 3.4.2). The
-    /// records are some that `pre_scan` accepts. Whatever the error, the zone is as it was.
-    ///
-    /// Where `increments_serial` is set and some record changed the zone, the serial of its SOA is incremented and the
-    /// answer is true; without an SOA that is ServFail. Where no record changed the zone, nothing of it is touched and
-    /// the answer is false. Where `increments_serial` is not set, as in a replay of updates that were made before, the
-    /// serial is what the records leave, and the answer is false whether they changed the zone or not.
+    /// Does what the records of an update section say to the zone, one after another (RFC 2136 section 3.4.2), as the
+    /// Rust crate hickory-server does: this is `update_records_by` without `by_rfc`.
     pub fn update_records(
         &mut self,
         alloc: Global,
@@ -167,7 +164,34 @@ impl<V: Verifier> UpdatableZoneHandler<V> {
         increments_serial: bool,
     ) -> Result<bool, UpdateFault>
         requires { prescan_refusal self.old.zone.origin updates.now ≡ None }
-        ensures zone { Updates (applied self.old.zone.origin (zone_records self.old.zone.sets) updates.now
+        ensures zone { Updates (applied false self.old.zone.origin (zone_records self.old.zone.sets) updates.now
+            increments_serial) result self.old.zone self.new.zone }
+        ensures others { self.new ≡ record self.old { zone = self.new.zone } }
+        ensures untouched { IfOk result (λ changed. increments_serial ≡ true → changed ≡ false → self.new ≡ self.old) }
+    {
+        self.update_records_by(alloc, updates, increments_serial, false)
+    }
+
+    /// Does what the records of an update section say to the zone, one after another (RFC 2136 section 3.4.2). The
+    /// records are some that `pre_scan` accepts. Whatever the error, the zone is as it was.
+    ///
+    /// If `increments_serial` is set and some record changed the zone, the serial of its SOA is incremented and the
+    /// answer is true; without an SOA that is ServFail. If no record changed the zone, nothing of it is touched and
+    /// the answer is false. If `increments_serial` is not set, as in a replay of updates that were made before, the
+    /// serial is what the records leave, and the answer is false whether they changed the zone or not.
+    ///
+    /// If `by_rfc` is set, the RFCs are followed also where the Rust crate hickory-server differs from them: an RRset
+    /// has the TTL of the record that was added to it last (RFC 2181 section 5.2), a TTL of 2^31 or more counts as 0
+    /// (section 8), and the last NS of a name is kept only at the apex (RFC 2136 section 3.4.2.4).
+    pub fn update_records_by(
+        &mut self,
+        alloc: Global,
+        updates: &[Record],
+        increments_serial: bool,
+        by_rfc: bool,
+    ) -> Result<bool, UpdateFault>
+        requires { prescan_refusal self.old.zone.origin updates.now ≡ None }
+        ensures zone { Updates (applied by_rfc self.old.zone.origin (zone_records self.old.zone.sets) updates.now
             increments_serial) result self.old.zone self.new.zone }
         ensures others { self.new ≡ record self.old { zone = self.new.zone } }
         ensures untouched { IfOk result (λ changed. increments_serial ≡ true → changed ≡ false → self.new ≡ self.old) }
@@ -176,7 +200,7 @@ impl<V: Verifier> UpdatableZoneHandler<V> {
         read_serials(updates);
         // That no two records of a zone are the same is known of sets that were lent.
         let _ = self.in_memory.records();
-        let touched = updated(alloc, &self.in_memory, updates, increments_serial)?;
+        let touched = updated(alloc, by_rfc, &self.in_memory, updates, increments_serial)?;
         match touched {
             None => Ok(false),
             Some(touched) => {

@@ -17,7 +17,7 @@ ghost use Rattle.hickory_store.specs.updates.Prescan.{prescan_refusal, update_re
 ghost use Rattle.hickory_base.specs.zone_store.Serials.{is_greater};
 ghost use Rattle.hickory_store.specs.updates.Serials.{next_serial};
 ghost use Rattle.hickory_store.specs.updates.UpdateAnswers.{applied};
-ghost use Rattle.hickory_store.specs.updates.WorkedChanges.{added, alias, apex_address, apex_soa, comes_and_goes, deletes, hosts, ns, soa_of, updated, zone_at};
+ghost use Rattle.hickory_store.specs.updates.WorkedChanges.{added, alias, apex_address, apex_soa, by_rfc, comes_and_goes, deletes, delegation, hosts, in_crate, ns, soa_of, updated, www_with, zone_at};
 ghost use Rattle.hickory_store.specs.updates.WorkedUpdates.{address, asked, at_address, nx, origin, outside, required, required_of, scanned_empty, scanned_full, server, soa, types, with_data, www, www_in_capitals, zone};
 
 use crate::updates::verifier::Verifier;
@@ -126,7 +126,7 @@ pub fn worked_additions()
     ensures cname_beside { updated 7 (record_of www 1 3600 (rdata.CNAME server) ∷ []) true ≡ Ok (zone_at 7, false) }
     ensures cname { updated 7 (comes_and_goes ++ record_of alias 1 60 (rdata.CNAME server) ∷ []) true ≡ Ok
         (zone_at 8 ++ record_of alias 1 60 (rdata.CNAME server) ∷ [], true) }
-    ensures no_soa { applied origin hosts (at_address added 55 ∷ []) true ≡ Err 2 }
+    ensures no_soa { applied false origin hosts (at_address added 55 ∷ []) true ≡ Err 2 }
 {}
 
 /// What deletions do to the zone (RFC 2136 sections 3.4.2.3 and 3.4.2.4): at the apex SOA and NS stay, and so does the
@@ -147,6 +147,37 @@ pub fn worked_deletions()
     ensures comes_and_goes { updated 7 comes_and_goes true ≡ Ok (zone_at 8, true) }
     ensures replayed { updated 7 (comes_and_goes ++ apex_soa 8 ∷ []) false ≡ Ok
         (ns ∷ apex_address 3600 ∷ hosts ++ apex_soa 8 ∷ [], false) }
+{}
+
+/// What updates do by the RFCs where the Rust crate hickory-server differs from them, and what they do there: an RRset
+/// has the TTL of the record that was added last (RFC 2181 section 5.2), a TTL of 2^31 or more counts as 0 (section 8),
+/// and the last NS is kept only at the apex (RFC 2136 section 3.4.2.4).
+pub fn worked_rules()
+    ensures one_ttl { by_rfc (zone_at 7) (www_with 12 60 ∷ []) ≡ Ok (
+      apex_soa 8 ∷ ns ∷ apex_address 3600 ∷ www_with 10 60
+          ∷ www_with 11 60 ∷ www_with 12 60 ∷ [],
+      true,
+    ) }
+    ensures two_ttls { in_crate (zone_at 7) (www_with 12 60 ∷ []) ≡ Ok
+        (apex_soa 8 ∷ ns ∷ apex_address 3600 ∷ hosts ++ www_with 12 60 ∷ [], true) }
+    ensures there { by_rfc (zone_at 7) (www_with 10 60 ∷ []) ≡ Ok
+        (apex_soa 8 ∷ ns ∷ apex_address 3600 ∷ www_with 11 60 ∷ www_with 10 60 ∷ [], true) }
+    ensures there_with_ttl { by_rfc (zone_at 7) (www_with 10 3600 ∷ []) ≡ Ok (zone_at 7, false) }
+    ensures there_beside { by_rfc (apex_soa 7 ∷ www_with 10 3600 ∷ www_with 11 60 ∷ []) (www_with 10 3600 ∷ []) ≡ Ok
+        (apex_soa 8 ∷ www_with 11 3600 ∷ www_with 10 3600 ∷ [], true) }
+    ensures there_beside_in_crate { in_crate (apex_soa 7 ∷ www_with 10 3600 ∷ www_with 11 60 ∷ [])
+        (www_with 10 3600 ∷ []) ≡ Ok (apex_soa 7 ∷ www_with 10 3600 ∷ www_with 11 60 ∷ [], false) }
+    ensures large_ttl { by_rfc (apex_soa 7 ∷ []) (www_with 10 2147483648 ∷ []) ≡ Ok
+        (apex_soa 8 ∷ www_with 10 0 ∷ [], true) }
+    ensures largest_ttl { by_rfc (apex_soa 7 ∷ []) (www_with 10 2147483647 ∷ []) ≡ Ok
+        (apex_soa 8 ∷ www_with 10 2147483647 ∷ [], true) }
+    ensures large_ttl_in_crate { in_crate (apex_soa 7 ∷ []) (www_with 10 2147483648 ∷ []) ≡ Ok
+        (apex_soa 8 ∷ www_with 10 2147483648 ∷ [], true) }
+    ensures delegation { by_rfc (apex_soa 7 ∷ ns ∷ delegation ∷ []) (deletes alias (rdata.NS server) ∷ []) ≡ Ok
+        (apex_soa 8 ∷ ns ∷ [], true) }
+    ensures delegation_in_crate { in_crate (apex_soa 7 ∷ ns ∷ delegation ∷ []) (deletes alias (rdata.NS server) ∷ [])
+        ≡ Ok (apex_soa 7 ∷ ns ∷ delegation ∷ [], false) }
+    ensures apex_ns { by_rfc (zone_at 7) (deletes origin (rdata.NS server) ∷ []) ≡ Ok (zone_at 7, false) }
 {}
 
 /// Serials are compared and incremented by the arithmetic of RFC 1982.

@@ -31,7 +31,8 @@ fn take_set(alloc: Global, sets: &mut Sets, key: &RrKey) -> Result<Vec<Record>, 
     ensures others { PutsSet key.now None (sets_of sets.old) (sets_of sets.new) }
 {
     match sets.remove(key) {
-        None => Ok(Vec::new(alloc)),
+        // Most sets have one record.
+        None => Vec::with_capacity(alloc, 1),
         Some(set) => RecordSet::unshared(alloc, set),
     }
 }

@@ -8,4 +8,3 @@ pub mod Hosts
 pub mod OneChain
 pub mod OneReply
 pub mod Referred
-pub mod Searching

@@ -6,6 +6,8 @@ pub mod Every
 pub mod Features
 pub mod Glue
 pub mod Indexed
+pub mod Kept
+pub mod Marked
 pub mod Missing
 pub mod MoreFeatures
 pub mod Nodes

@@ -1,12 +1,11 @@
 -- Records that were put behind others.
-use Rattle.std.specs.Prelude.{◌≡◌, ◌++◌, ℕ, Option, None}
+use Rattle.std.specs.Prelude.{◌≡◌, ◌++◌}
 use Rattle.wire_names.specs.rr.domain.DomainName.{DomainName}
 use Rattle.wire_names.specs.rr.domain.NameOrder.{lower_name}
 use Rattle.wire_messages.specs.Numbers.{type_a, type_aaaa}
 use Rattle.hickory_zone.specs.declared.additionals.Source.{Source}
-use Rattle.hickory_zone.specs.declared.additionals.Source.TheVariants as source
 use Rattle.hickory_zone.specs.Additionals.{Gains}
-use Rattle.hickory_zone.specs.Zones.{Records, Sets, Zone, rrset}
+use Rattle.hickory_zone.specs.Zones.{Records, Zone}
 
 -- Records of which this holds were put behind those that were there.
 pub record IsGrown (P : Records → Type 0) (old new : Records) : Type 0 where
@@ -21,8 +20,3 @@ pub record AreGained (from : Source) (zone : Zone) (answers : Records) (host : D
   pub put : new ≡ (old ++ four) ++ six
   pub gained_four : Gains from zone (answers ++ old) (lower_name host) type_a four
   pub gained_six : Gains from zone (answers ++ (old ++ four)) (lower_name host) type_aaaa six
-
--- What stands in the zone for a host and a type is these records, where such are taken; else there are none.
-abbrev pub IsGlue : Source → Sets → DomainName → ℕ → Option Records → Type 0
-IsGlue source.Answer sets host t found = found ≡ None
-IsGlue source.Glue sets host t found = found ≡ rrset sets host t

@@ -1,29 +1,72 @@
 -- The sets of a zone in the order of their keys, with numbers by which they are searched.
-use Rattle.std.specs.Prelude.{◌≡◌, ℕ, false, true, List, [], ◌∷◌, drop, take}
+use Rattle.std.specs.Prelude.{◌≡◌, ◌≤◌, ℕ, Bool, false, true, List, [], ◌∷◌, drop, length, slice_get, slice_set, take, Some}
 use Rattle.std.specs.BTreeMap.Range.{range_contains}
-use Rattle.std.specs.List.{AllByRecursion}
+use Rattle.std.specs.List.{AllByRecursion, list_any}
 use Rattle.std.specs.declared.ops.Bound.TheVariants.{Included, Unbounded}
 use Rattle.std.specs.List.Sorted.{IsStrictlySortedBy}
 use Rattle.std.specs.Map.{keys_of}
 use Rattle.wire_names.specs.rr.domain.DomainName.{DomainName}
-use Rattle.wire_names.specs.rr.domain.NameOrder.{Encloses, lower_labels}
+use Rattle.wire_names.specs.rr.domain.NameOrder.{Encloses, lower_labels, name_eq}
 use Rattle.wire_names.specs.representation.OrderKey.{order_key, order_word}
 use Rattle.wire_names.specs.serialize.layout.Bytes.{AreBytes}
+use Rattle.wire_messages.specs.Numbers.{type_a, type_aaaa, type_ns, type_soa}
 use Rattle.wire_messages.specs.rr.RrKeys.{key_cmp}
 use Rattle.wire_messages.specs.declared.rr.rr_key.RrKey.{RrKey}
+use Rattle.hickory_base.specs.zone_store.ZoneRecords.{is_at}
 use Rattle.hickory_base.specs.zone_store.ZoneSets.{shared_sets}
 use Rattle.hickory_zone.specs.representation.KeysBeside.{Entry}
-use Rattle.hickory_zone.specs.Zones.{Sets}
+use Rattle.hickory_zone.specs.Zones.{Records, Sets, rrset}
 
--- sets, and the name that all their owners are at or below
+-- Sets as a zone had them, and the name that all their owners are at or below. At the place of a name that may have
+-- changed since is a mark. If nothing has changed, the zone still has these sets. If no NS records have changed, it has
+-- these cuts, and if no addresses have, these addresses.
 pub record IndexedSets : Type 0 where
   pub apex : DomainName
   pub entries : List Entry
+  pub marks : List Bool
+  pub is_whole : Bool
+  pub has_servers : Bool
+  pub has_addresses : Bool
 
--- They are all sets of the zone of this origin.
-pub record IsIndexOf (origin : DomainName) (sets : Sets) (index : IndexedSets) : Type 0 where
+-- The place stands behind the keys that are before this one.
+pub record IsPlaceOf (first : RrKey) (entries : List Entry) (place : ℕ) : Type 0 where
+  pub before : AllByRecursion (λ e. range_contains key_cmp (Included first) Unbounded e.0 ≡ false) (take place entries)
+  pub behind : AllByRecursion (λ e. range_contains key_cmp (Included first) Unbounded e.0 ≡ true) (drop place entries)
+
+-- There is no mark at the place of the key.
+pub record IsUnmarked (index : IndexedSets) (first : RrKey) : Type 0 where
+  pub place : ℕ
+  pub is : IsPlaceOf first index.entries place
+  pub within : place ≤ length index.entries
+  pub unmarked : slice_get index.marks place ≡ Some false
+
+-- The zone has this RRset as the index has it, or neither has one.
+abbrev pub HasStill : Sets → IndexedSets → DomainName → ℕ → Type 0
+HasStill sets index name t = rrset sets name t ≡ rrset (shared_sets index.entries) name t
+
+-- It is an index of the zone of this origin, whatever it says of the owner names of these records.
+pub record IsIndexBut (records : Records) (origin : DomainName) (sets : Sets) (index : IndexedSets) : Type 0 where
   pub apex : index.apex ≡ origin
-  pub whole : shared_sets index.entries ≡ sets
+  pub whole : index.is_whole ≡ true → shared_sets index.entries ≡ sets
+  pub unmarked : (name : DomainName) (t : ℕ) → list_any (is_at name) records ≡ false → IsUnmarked index (record { name = name; record_type = 0 }) → HasStill sets index name t
+  pub servers : (name : DomainName) → list_any (is_at name) records ≡ false → index.has_servers ≡ true → HasStill sets index name type_ns
+  pub four : (name : DomainName) → list_any (is_at name) records ≡ false → index.has_addresses ≡ true → HasStill sets index name type_a
+  pub six : (name : DomainName) → list_any (is_at name) records ≡ false → index.has_addresses ≡ true → HasStill sets index name type_aaaa
+
+abbrev pub IsIndexOf : DomainName → Sets → IndexedSets → Type 0
+IsIndexOf origin sets index = IsIndexBut [] origin sets index
+
+-- An update with these records may have left the zone so (RFC 2136 sections 3.4.2 and 3.6): it has the RRsets that it
+-- had, except those of the records' owner names and the SOA at the apex.
+abbrev pub KeepsOthers : Records → DomainName → Sets → Sets → Type 0
+KeepsOthers records origin old new = (name : DomainName) (t : ℕ) → list_any (is_at name) records ≡ false → (t ≡ type_soa → name_eq name origin ≡ false) → rrset new name t ≡ rrset old name t
+
+-- At the place of the key is a mark, and nothing else has changed.
+pub record Marks (first : RrKey) (old new : IndexedSets) : Type 0 where
+  pub place : ℕ
+  pub is : IsPlaceOf first old.entries place
+  pub within : place ≤ length old.entries
+  pub new_is : new ≡ record old { marks = slice_set old.marks place true; is_whole = false }
 
 -- The number is that of the key's name, which is at the apex or below it: names with other numbers are in their order.
 pub record IsWordOf (apex : DomainName) (key : RrKey) (word : ℕ) : Type 0 where
@@ -43,8 +86,3 @@ AreWordsOf apex es words = ⊥
 pub record IsSearched (apex : DomainName) (entries : List Entry) (words : List ℕ) : Type 0 where
   pub ordered : IsStrictlySortedBy key_cmp (keys_of entries)
   pub numbered : AreWordsOf apex entries words
-
--- The place stands behind the keys that are before this one.
-pub record IsPlaceOf (first : RrKey) (entries : List Entry) (place : ℕ) : Type 0 where
-  pub before : AllByRecursion (λ e. range_contains key_cmp (Included first) Unbounded e.0 ≡ false) (take place entries)
-  pub behind : AllByRecursion (λ e. range_contains key_cmp (Included first) Unbounded e.0 ≡ true) (drop place entries)

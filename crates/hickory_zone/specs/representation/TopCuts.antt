@@ -11,7 +11,7 @@ use Rattle.wire_messages.specs.declared.rr.rr_key.RrKey.{RrKey}
 use Rattle.wire_messages.specs.declared.rr.rdata.RData.{RData}
 use Rattle.wire_messages.specs.declared.rr.record.Record.{Record}
 use Rattle.hickory_zone.specs.declared.additionals.Source.TheVariants as source
-use Rattle.hickory_zone.specs.Additionals.{AreAdditionals, hosts_of}
+use Rattle.hickory_zone.specs.Additionals.{AreAdditionals}
 use Rattle.hickory_zone.specs.declared.cuts.Cut.{Cut}
 use Rattle.hickory_zone.specs.declared.cuts.Cuts.{Cuts}
 use Rattle.hickory_zone.specs.declared.cuts.TopCut.{TopCut}
@@ -57,7 +57,7 @@ pub record IsAt (cuts : List Entry) (top : TopCut) : Type 0 where
 -- 4.3.2, step 3b).
 abbrev pub AreGlueOf : Zone → List Entry → List (Vec (Record RData) Global) → Type 0
 AreGlueOf zone [] [] = Unit {0}
-AreGlueOf zone (e ∷ es) (glue ∷ all) = AreAdditionals source.Glue zone [] (hosts_of e.1.value) glue.items × AreGlueOf zone es all
+AreGlueOf zone (e ∷ es) (glue ∷ all) = AreAdditionals source.Glue zone [] e.1.value glue.items × AreGlueOf zone es all
 AreGlueOf zone es all = ⊥
 
 -- the servers of a cut, if there is one
@@ -66,7 +66,7 @@ servers_at cut = option_map (λ c. c.servers.now) cut
 
 -- Where addresses are told, they are those of the servers that stand in the zone.
 abbrev pub HasGlue : Zone → Cut → Type 0
-HasGlue zone cut = IfSome (option_copied cut.glue) (AreAdditionals source.Glue zone [] (hosts_of cut.servers.now))
+HasGlue zone cut = IfSome (option_copied cut.glue) (AreAdditionals source.Glue zone [] cut.servers.now)
 
 -- ---- how they are told, in the order of the keys
 

@@ -18,9 +18,8 @@ use base64::DecodeAllocError;
 use base64::engine::general_purpose::STANDARD;
 use hex::FromHexError;
 use hickory_wire::Name;
-use location_text::put_location;
-use service_text::put_parameters;
 use std::alloc::Global;
+use text_data::{put_location, put_parameters};
 use text_words::{TextError, TextFault, Word, fault_at, put_string};
 
 /// A fault of words together, at the first of them.

@@ -13,4 +13,4 @@ pub returns-clause-transfers_allowed : goal.returns-clause-transfers_allowed
 returns-clause-transfers_allowed g c = rw (c.in_ok-signed.ensures.server, c.in_ok-server.ensures.rules) c.in_ok-rules.ensures.transfers_allowed
 
 pub returns-clause-transfer_keys : goal.returns-clause-transfer_keys
-returns-clause-transfer_keys g c = rw c.deref.ensures.value at c.in_ok-names.ensures
+returns-clause-transfer_keys g c = rw c.in_ok-signed.ensures.keys (rw c.deref.ensures.value at c.in_ok-names.ensures)

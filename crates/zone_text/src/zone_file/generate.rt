@@ -13,8 +13,8 @@ use crate::zone_file::expand::numbered;
 use crate::zone_file::fault::{EntryError, fault_of};
 use crate::zone_file::number_range::{NumberRange, range_of};
 use hickory_wire::{Items, Name, Record};
-use service_text::service_laws::parameters_once;
 use std::alloc::Global;
+use text_data::service_laws::parameters_once;
 use text_words::word_laws::words_stand_once;
 use text_words::{TextFault, Word, Words, absolute_name, fault_at};
 

@@ -2,7 +2,7 @@
 use Rattle.std.proofs.Common.{◌≡◌, ◌∙◌, ℕ, List, Vec, Err, ap, length, map, rules, subst}
 use Rattle.std.specs.declared.alloc.Global.{Global}
 use Rattle.hickory_base.specs.declared.errors.UpdateFault.{UpdateFault}
-use Rattle.update_journal.specs.Read.{contents}
+use Rattle.journal.specs.Read.{contents}
 use Rattle.durable_updates.specs.Batches.{told_unwritten}
 use Rattle.durable_updates.specs.DurableUpdates.{IsWriteFault, Told}
 use Rattle.durable_updates.specs.Journalling.{JournalsAll, RefusesEntries}

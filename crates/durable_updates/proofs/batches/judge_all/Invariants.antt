@@ -1,7 +1,7 @@
 -- What is told so far stands before what the rest is told, and so do the entries.
 use Rattle.std.proofs.Common.{◌≡◌, List, ◌++◌, length}
 use Rattle.hickory_store.specs.updates.UpdatableZone.{UpdatableZone}
-use Rattle.update_journal.specs.Read.{contents}
+use Rattle.journal.specs.Read.{contents}
 use Rattle.durable_updates.specs.Batches.{AnswersEach, accepted, bytes_of}
 use Rattle.durable_updates.specs.DurableUpdates.{Told}
 use Rattle.durable_updates.proofs.Judging.{KeepsOthers}

@@ -1,5 +1,5 @@
 -- What was judged is written, or taken back.
-use Rattle.update_journal.specs.Read.{contents}
+use Rattle.journal.specs.Read.{contents}
 use Rattle.hickory_base.specs.zone_store.ZoneSets.{sets_of}
 use Rattle.durable_updates.proofs.Committed.{served}
 use Rattle.durable_updates.proofs.batches.update_all_durably.Goals as goal

@@ -1,7 +1,7 @@
 -- Nothing is to be added.
 use Rattle.std.proofs.Common.{◌≡◌, ◌∙◌, ℕ, [], List, Vec, ap, sym}
 use Rattle.std.specs.declared.alloc.Global.{Global}
-use Rattle.update_journal.specs.Read.{contents}
+use Rattle.journal.specs.Read.{contents}
 use Rattle.durable_updates.proofs.Judging.{empty_of}
 use Rattle.durable_updates.proofs.Untouched.{nothing_added}
 use Rattle.durable_updates.proofs.batches.write_held.Goals as goal

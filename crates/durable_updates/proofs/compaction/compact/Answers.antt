@@ -2,7 +2,7 @@
 use Rattle.std.proofs.Common.{◌≡◌, ◌<◌, ◌+◌, ◌^◌, ◌∙◌, List, Vec, ℕ, true, ap, arith, rules}
 use Rattle.std.proofs.lemmas.Grind.{common_steps}
 use Rattle.std.specs.declared.alloc.Global.{Global}
-use Rattle.update_journal.specs.Read.{contents}
+use Rattle.journal.specs.Read.{contents}
 use Rattle.durable_updates.specs.Compactions.{undone}
 use Rattle.durable_updates.specs.declared.compaction.CompactError.TheVariants as compact_error
 use Rattle.durable_updates.proofs.Compactions.{is_done, is_failed}

@@ -1,6 +1,6 @@
 -- The entries so far are done, and followed.
 use Rattle.std.proofs.Common.{◌≡◌, ◌++◌, List, ℕ, length}
-use Rattle.update_journal.specs.Read.{contents}
+use Rattle.journal.specs.Read.{contents}
 use Rattle.durable_updates.specs.Redone.{Redone}
 use Rattle.durable_updates.specs.Versions.{AreLed}
 use Rattle.durable_updates.proofs.following.redo_followed.Given as goal

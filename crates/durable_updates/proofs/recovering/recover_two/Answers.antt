@@ -1,7 +1,7 @@
 -- The second file is the one that is refused.
 use Rattle.std.proofs.Common.{◌⊎◌, inr, IsTrue}
 use Rattle.std.proofs.lemmas.Result.{err_from_is_err_and}
-use Rattle.update_journal.specs.Errors.{is_refusal}
+use Rattle.journal.specs.Errors.{is_refusal}
 use Rattle.durable_updates.specs.Recorded.{IsRefused}
 use Rattle.durable_updates.proofs.recovering.recover_two.Goals as goal
 

@@ -1,7 +1,7 @@
 -- The entries that are left lead where all of them lead.
 use Rattle.std.proofs.Common.{◌≡◌, length}
 use Rattle.hickory_base.specs.zone_store.ZoneAnswers.{MemoryZone}
-use Rattle.update_journal.specs.Read.{contents}
+use Rattle.journal.specs.Read.{contents}
 use Rattle.durable_updates.specs.Redone.{Redone}
 use Rattle.durable_updates.proofs.redoing.redo.Given as goal
 

@@ -2,7 +2,7 @@
 use Rattle.std.proofs.Common.{◌≡◌, ◌∙◌, ◌-◌, ◌++◌, ◌∷◌, [], ℕ, List, Vec, ap, append_assoc, drop, length, subst, sym, take}
 use Rattle.std.specs.declared.alloc.Global.{Global}
 use Rattle.hickory_store.specs.updates.UpdatableZone.{UpdatableZone}
-use Rattle.update_journal.specs.Read.{contents}
+use Rattle.journal.specs.Read.{contents}
 use Rattle.durable_updates.specs.Redone.{RedoesOne}
 use Rattle.durable_updates.proofs.Entries.{one_more}
 use Rattle.durable_updates.proofs.Judging.{front_of}

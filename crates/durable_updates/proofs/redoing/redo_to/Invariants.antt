@@ -1,6 +1,6 @@
 -- The entries so far are done.
 use Rattle.std.proofs.Common.{◌≡◌, ◌++◌, List, ℕ, length}
-use Rattle.update_journal.specs.Read.{contents}
+use Rattle.journal.specs.Read.{contents}
 use Rattle.durable_updates.specs.Redone.{Redone}
 use Rattle.durable_updates.proofs.redoing.redo_to.Given as goal
 

@@ -3,7 +3,7 @@ use Rattle.std.proofs.Common.{◌≡◌, ◌∙◌, ◌-◌, ◌++◌, ◌∷◌
 use Rattle.std.proofs.lemmas.List.{append-nil}
 use Rattle.wire_messages.specs.declared.rr.rdata.RData.{RData}
 use Rattle.wire_messages.specs.declared.rr.record.Record.{Record}
-use Rattle.update_journal.specs.Read.{contents}
+use Rattle.journal.specs.Read.{contents}
 use Rattle.durable_updates.proofs.Judging.{front_of}
 use Rattle.durable_updates.proofs.Recalled.{say_more}
 use Rattle.durable_updates.proofs.snapshots.push_records.Goals as goal

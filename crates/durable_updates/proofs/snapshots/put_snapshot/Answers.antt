@@ -2,7 +2,7 @@
 use Rattle.std.proofs.Common.{◌≡◌, ◌∙◌, ◌-◌, ◌∷◌, inr, ℕ, List, Vec, ap, arith, drop, length, take}
 use Rattle.std.specs.declared.alloc.Global.{Global}
 use Rattle.hickory_store.specs.updates.UpdatableZone.{UpdatableZone}
-use Rattle.update_journal.specs.Read.{contents}
+use Rattle.journal.specs.Read.{contents}
 use Rattle.durable_updates.proofs.Judging.{front_of}
 use Rattle.durable_updates.proofs.snapshots.put_snapshot.Goals as goal
 

@@ -1,6 +1,6 @@
 -- The entries so far say the records that were read.
 use Rattle.std.proofs.Common.{◌≡◌, ◌++◌, List, ℕ, length}
-use Rattle.update_journal.specs.Read.{contents}
+use Rattle.journal.specs.Read.{contents}
 use Rattle.durable_updates.specs.Snapshots.{Say}
 use Rattle.durable_updates.proofs.snapshots.read_snapshot.Given as goal
 

@@ -1,5 +1,5 @@
 -- What is done of the requests is recalled of the entries.
-use Rattle.update_journal.specs.Read.{contents}
+use Rattle.journal.specs.Read.{contents}
 use Rattle.durable_updates.proofs.Recalled.{of_found, recalls_front}
 use Rattle.durable_updates.proofs.snapshots.recall_to.Goals as goal
 

@@ -7,8 +7,8 @@ use Rattle.wire_messages.specs.declared.rr.rr_key.RrKey.{RrKey}
 use Rattle.hickory_base.specs.zone_store.ZoneAnswers.{MemoryZone}
 use Rattle.hickory_base.specs.zone_store.ZoneSets.{sets_of, zone_records}
 use Rattle.hickory_store.proofs.lemmas.updates.DataTypes.{one_type}
-use Rattle.update_journal.specs.Read.{contents}
-use Rattle.update_journal.proofs.Recovery.{contents_more}
+use Rattle.journal.specs.Read.{contents}
+use Rattle.journal.proofs.Recovery.{contents_more}
 use Rattle.durable_updates.specs.Snapshots.{Say}
 use Rattle.durable_updates.proofs.Recalled.{snapshot_is}
 use Rattle.durable_updates.proofs.snapshots.snapshot.Goals as goal

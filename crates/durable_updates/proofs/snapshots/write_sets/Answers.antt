@@ -7,7 +7,7 @@ use Rattle.wire_messages.specs.declared.rr.record.Record.{Record}
 use Rattle.wire_messages.specs.declared.rr.rr_key.RrKey.{RrKey}
 use Rattle.hickory_base.specs.declared.zone_store.record_set.RecordSet.{RecordSet}
 use Rattle.hickory_base.specs.zone_store.ZoneSets.{shared_sets, zone_records}
-use Rattle.update_journal.specs.Read.{contents}
+use Rattle.journal.specs.Read.{contents}
 use Rattle.durable_updates.specs.Snapshots.{Say}
 use Rattle.durable_updates.proofs.Recalled.{say_more}
 use Rattle.durable_updates.proofs.snapshots.write_sets.Goals as goal

@@ -1,10 +1,14 @@
 use Rattle.hickory_catalog.specs.requests.Server.{server_of}
-use Rattle.hickory_catalog.proofs.lemmas.replies.RepliesFit.{error_fits, query_fits, request_fits, signed_fits, transferred_fits, update_fits}
+use Rattle.hickory_catalog.proofs.lemmas.replies.RepliesFit.{by_chain_fit, error_fits, query_fits, request_fits, signed_fits, transferred_fits, update_fits}
 use Rattle.hickory_catalog.proofs.laws.replies_of_requests.Goals as goal
 
 pub returns-clause-queries : goal.returns-clause-queries
 returns-clause-queries g c = λ catalog request edns now replies r.
     query_fits (server_of g.H.ZoneHandler g.S.ReplySigner.signature_for catalog) c.forwarded_replies.ensures.codes c.authoritative_replies.ensures.codes request edns now replies r
+
+pub returns-clause-chains : goal.returns-clause-chains
+returns-clause-chains g c = λ catalog chain request edns now replies r.
+    by_chain_fit (server_of g.H.ZoneHandler g.S.ReplySigner.signature_for catalog) c.forwarded_replies.ensures.codes c.authoritative_replies.ensures.codes request edns now chain replies r
 
 pub returns-clause-updates : goal.returns-clause-updates
 returns-clause-updates g c = λ catalog request edns now reply zones updates r.

@@ -29,7 +29,8 @@ use Rattle.hickory_catalog.specs.queries.AuthoritativeLaws.{AuthoritativeCodes}
 use Rattle.hickory_catalog.specs.replies.DecodedReplies.{IsReplyHeader, RepliesTo}
 use Rattle.hickory_catalog.specs.queries.Forwarded.{findings_contents, findings_of, forwarded_contents, forwarded_metadata, is_authentic, validated}
 use Rattle.hickory_catalog.specs.queries.ForwardedLaws.{ForwardedCodes, is_one_of}
-use Rattle.hickory_catalog.specs.queries.Queries.{GivenReplies, HandlerReply, QueryReplies, ReplyByType, ZoneReplies, ZoneReply, lookup, no_zone, one, other_count, split, transfer, unanswered, untransferred, whole, whole_contents, zone}
+use Rattle.hickory_catalog.specs.queries.Queries.{ChainReplies, GivenReplies, HandlerReply, QueryReplies, ReplyByType, ZoneReplies, ZoneReply, lookup, no_zone, one, other_count, split, transfer, unanswered, untransferred, whole, whole_contents, zone}
+use Rattle.hickory_catalog.specs.queries.Queries as by_chain
 use Rattle.hickory_catalog.specs.replies.Replies.{Contents, bare_contents, error_reply, unsigned_reply}
 use Rattle.hickory_catalog.specs.replies.ReplyEdns.{reply_edns, with_high_code}
 use Rattle.hickory_catalog.specs.requests.Requests.{RequestAnswered, header_fault, is_request, request_fault}
@@ -150,6 +151,10 @@ module _ {H : Type 0} (server : Server H) (forwarded : ForwardedCodes) (codes : 
   zone_all_fit : (chain : List H) (query : Query) (replies : List Reply) → ZoneReplies server chain (record { request = request; query = query }) edns now replies → AllByRecursion (RepliesTo request.message edns) replies
   zone_all_fit chain query replies (one {reply = reply} r is) = fits_alone request.message edns reply replies is (zone_fits chain query reply r)
   zone_all_fit chain query replies (transfer {result = result} {context = context} _ _ g) = given_fits request edns replies server.signer result context g
+
+  pub by_chain_fit : (chain : List H) (replies : List Reply) → ChainReplies server chain request edns now replies → AllByRecursion (RepliesTo request.message edns) replies
+  by_chain_fit chain replies (by_chain.other_count _ is) = fits_alone request.message edns _ replies is (error_fits request.message edns 1 (omega arith))
+  by_chain_fit chain replies (by_chain.asked _ r) = zone_all_fit chain _ replies r
 
   pub query_fits : (replies : List Reply) → QueryReplies server request edns now replies → AllByRecursion (RepliesTo request.message edns) replies
   query_fits replies (other_count _ is) = fits_alone request.message edns _ replies is (error_fits request.message edns 1 (omega arith))

@@ -14,7 +14,8 @@ use Rattle.hickory_base.specs.requests.Requests.{ReceivedRequest}
 use Rattle.hickory_base.specs.declared.errors.LookupError.{LookupError}
 use Rattle.hickory_catalog.specs.requests.Alone.{IsOfZone, alone}
 use Rattle.hickory_catalog.specs.zones.Find.{Finds, IsNearest, MayAnswer}
-use Rattle.hickory_catalog.specs.queries.Queries.{AskedQuery, QueryReplies, ZoneReplies, ZoneReply, lookup, no_zone, one, other_count, transfer, unanswered, untransferred, zone}
+use Rattle.hickory_catalog.specs.queries.Queries.{AskedQuery, ChainReplies, QueryReplies, ZoneReplies, ZoneReply, lookup, no_zone, one, other_count, transfer, unanswered, untransferred, zone}
+use Rattle.hickory_catalog.specs.queries.Queries as by_chain
 use Rattle.hickory_catalog.specs.requests.Requests.{RequestAnswered, asks, refused, updates}
 use Rattle.hickory_catalog.specs.requests.Server.{Server}
 use Rattle.hickory_catalog.specs.updates.Updates.{ApexUpdated, FirstUpdated, UpdateGiven, UpdateReply, answered, no_apex, no_handler, unnamed, updated_zone, zone_named}
@@ -82,6 +83,17 @@ module _ {H : Type 0} (server : Server H) (zones : List (DomainName × List H)) 
   replies_elsewhere : (replies : List Reply) → ZoneReplies server chain asked edns now replies → ZoneReplies (record server { zones = zones }) chain asked edns now replies
   replies_elsewhere replies (one {reply = reply} r is) = one (reply_elsewhere reply r) is
   replies_elsewhere replies (transfer a b c) = transfer a b c
+
+-- the replies of the chain of a zone that may answer for the name are those where that zone is alone
+pub chain_alone : {H : Type 0} (server : Server H) (zone_is : DomainName × List H) (request : ReceivedRequest) (query : Query) (edns : Option EdnsFields) (now : ℕ) (replies : List Reply)
+    → one_query request.message.queries.queries ≡ Ok query → MayAnswer zone_is.0 (lower_name query.name)
+    → ChainReplies server zone_is.1 request edns now replies → QueryReplies (alone server zone_is) request edns now replies
+chain_alone server (key, chain) request query edns now replies is may (by_chain.other_count e r) = absurd cc
+chain_alone server (key, chain) request query edns now replies is may (by_chain.asked {query = q} is_one r) =
+    let same : q ≡ query = cc in
+    let asked : AskedQuery = record { request = request; query = query } in
+    let replied = subst (λ (x : Query). ZoneReplies server chain (record { request = request; query = x }) edns now replies) same r in
+    zone is (key, near_alone (lower_name query.name) (key, chain) may) (replies_elsewhere server ((key, chain) ∷ []) chain asked edns now replies replied)
 
 -- the replies of a chain that gives its zone do not depend on other zones
 transfers_elsewhere : {H : Type 0} (server : Server H) (zones : List (DomainName × List H)) (chain : List H) (request : ReceivedRequest) (edns : Option EdnsFields) (now : ℕ) (replies : List Reply)

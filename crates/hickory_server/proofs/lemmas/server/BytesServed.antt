@@ -6,7 +6,7 @@ use Rattle.wire_names.specs.rr.domain.DomainName.{DomainName}
 use Rattle.wire_messages.specs.declared.protocol.Protocol.{Protocol}
 use Rattle.wire_reading.specs.serialize.layout.WholeMessage.{MessageAt}
 use Rattle.wire_reading.specs.serialize.reading.MessageReading.{Reads}
-use Rattle.access_control.specs.Access.{IsAllowed}
+use Rattle.server_limits.specs.Access.{IsAllowed}
 use Rattle.hickory_base.specs.requests.RequestReading.{IsQuestionSection, message_of}
 use Rattle.hickory_base.specs.requests.Requests.{ReceivedRequest}
 use Rattle.hickory_base.specs.responses.EncodingSinks.{EncodedReplies}

@@ -10,7 +10,7 @@ use Rattle.wire_reading.specs.serialize.reading.MessageReading.{Fault, Reads}
 use Rattle.wire_names.specs.declared.error.DecodeError.{DecodeError}
 use Rattle.wire_reading.specs.declared.op.message.Message.{Message}
 use Rattle.wire_messages.specs.declared.op.query.Query.{Query}
-use Rattle.access_control.specs.Access.{AccessSets}
+use Rattle.server_limits.specs.Access.{AccessSets}
 use Rattle.hickory_base.specs.requests.Questions.{one_query}
 use Rattle.hickory_base.specs.requests.RequestReading.{message_of}
 use Rattle.hickory_base.specs.requests.Requests.{ReceivedRequest}

@@ -12,3 +12,8 @@ pub leaves_all : {H T : Type 0} (server : Server H) (request : ReceivedRequest) 
     → IfErr result (λ e. (sink : EncodedReplies) × LeavesRequest server request now sink e server.zones)
 leaves_all server request now (Ok value) is = tt
 leaves_all server request now (Err e) is = let sink : EncodedReplies = record { protocol = request.protocol; replies = []; failures = 0 } in (sink, rw is (refl, refl, refl))
+
+-- What holds of an error leads to more.
+pub if_err_map : {T E : Type 0} (r : Result T E) (P Q : E → Type 0) → IfErr r P → ((e : E) → P e → Q e) → IfErr r Q
+if_err_map (Ok t) P Q h f = h
+if_err_map (Err e) P Q h f = f e h

@@ -1,7 +1,7 @@
 -- Runs that go on by one message.
 use Rattle.std.proofs.Common.{◌≡◌, List, [], ◌∷◌, ◌++◌, ap, subst, ◌∙◌}
 use Rattle.wire_names.specs.rr.domain.DomainName.{DomainName}
-use Rattle.access_control.specs.Access.{AccessSets}
+use Rattle.server_limits.specs.Access.{AccessSets}
 use Rattle.hickory_base.specs.declared.zone_store.handler.ZoneHandler.{Ghosts}
 use Rattle.hickory_catalog.specs.requests.Server.{Server, server_of}
 use Rattle.hickory_catalog.specs.replies.Signing.{Signer}

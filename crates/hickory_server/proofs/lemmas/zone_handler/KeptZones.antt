@@ -7,7 +7,7 @@ use Rattle.wire_names.specs.rr.domain.DomainName.{DomainName}
 use Rattle.wire_messages.specs.op.EdnsFields.{EdnsFields}
 use Rattle.wire_messages.specs.serialize.writing.Reply.{Reply}
 use Rattle.wire_messages.specs.declared.rr.tsig.TSigResponseContext.{TSigResponseContext}
-use Rattle.access_control.specs.Access.{AccessSets}
+use Rattle.server_limits.specs.Access.{AccessSets}
 use Rattle.hickory_base.specs.requests.Requests.{ReceivedRequest, TimedRequest}
 use Rattle.hickory_base.specs.zone_store.ZoneAnswers.{MemoryZone}
 use Rattle.hickory_base.specs.zone_store.ZoneRecords.{is_at}
@@ -42,7 +42,7 @@ use Rattle.hickory_server.specs.declared.server.serve.Outcome as served
 
 -- ---- the records of an update
 
-module _ (Holds : OfZone) (folds : (o : DomainName) (rs z : Records) → Holds o z → Holds o (after_updates o z rs))
+module _ (Holds : OfZone) (folds : (f : Bool) (o : DomainName) (rs z : Records) → Holds o z → Holds o (after_updates f o z rs))
     (nexts : (o : DomainName) (z : Records) → Holds o z → Holds o (map (incremented o) z)) (sames : (o : DomainName) (z w : Records) → SameZone z w → Holds o z → Holds o w) where
   abbrev Left : DomainName → Outcome → Type 0
   Left o (Ok p) = Holds o p.0
@@ -52,29 +52,29 @@ module _ (Holds : OfZone) (folds : (o : DomainName) (rs z : Records) → Holds o
   found_left o z true h = nexts o z h
   found_left o z false h = tt
 
-  changed_left : (o : DomainName) (rs z : Records) (b : Bool) → Holds o z → Left o (cond b (with_next_serial o (after_updates o z rs)) (Ok (z, false)))
-  changed_left o rs z true h = found_left o (after_updates o z rs) (list_any (is_apex_soa o) (after_updates o z rs)) (folds o rs z h)
-  changed_left o rs z false h = h
+  changed_left : (f : Bool) (o : DomainName) (rs z : Records) (b : Bool) → Holds o z → Left o (cond b (with_next_serial o (after_updates f o z rs)) (Ok (z, false)))
+  changed_left f o rs z true h = found_left o (after_updates f o z rs) (list_any (is_apex_soa o) (after_updates f o z rs)) (folds f o rs z h)
+  changed_left f o rs z false h = h
 
-  applied_left : (o : DomainName) (rs z : Records) (increments : Bool) → Holds o z → Left o (applied o z rs increments)
-  applied_left o rs z true h = changed_left o rs z (any_change o z rs) h
-  applied_left o rs z false h = folds o rs z h
+  applied_left : (f : Bool) (o : DomainName) (rs z : Records) (increments : Bool) → Holds o z → Left o (applied f o z rs increments)
+  applied_left f o rs z true h = changed_left f o rs z (any_change f o z rs) h
+  applied_left f o rs z false h = folds f o rs z h
 
   outcome_left : (o : DomainName) (outcome : Outcome) (records : Records) (changed : Bool) → Left o outcome → IsOutcome outcome records changed → Holds o records
   outcome_left o (Ok p) records changed h e = sames o p.0 records (λ q. sym (e.0 q)) h
   outcome_left o (Err code) records changed h e = absurd e
 
   pub records_kept : RecordsKeep Holds
-  records_kept rs increments (Ok changed) old new u h =
+  records_kept f rs increments (Ok changed) old new u h =
       subst (λ o. Holds o (zone_records new.sets)) (sym (ap (λ (z : MemoryZone). z.origin) u.1))
-      (outcome_left old.origin (applied old.origin (zone_records old.sets) rs increments) (zone_records new.sets) changed
-      (applied_left old.origin rs (zone_records old.sets) increments h) u.0)
-  records_kept rs increments (Err fault) old new u h = subst (HoldsIn Holds) (sym u.1) h
+      (outcome_left old.origin (applied f old.origin (zone_records old.sets) rs increments) (zone_records new.sets) changed
+      (applied_left f old.origin rs (zone_records old.sets) increments h) u.0)
+  records_kept f rs increments (Err fault) old new u h = subst (HoldsIn Holds) (sym u.1) h
 
 module _ (identity : Identity) (same_type : OfOneType) where
   pub soa_kept : RecordsKeep HasOneSoa
   soa_kept =
-      records_kept HasOneSoa (λ o rs z h. one_fold identity same_type o rs z h) (λ o z h. (next_soa h.0, one_next identity same_type o z h.0 h.1))
+      records_kept HasOneSoa (λ f o rs z h. one_fold identity same_type f o rs z h) (λ o z h. (next_soa h.0, one_next identity same_type o z h.0 h.1))
       (λ o z w e h. (h.0, one_soa_same identity same_type o z w h.0 e h.1))
 
   ns_next : (o : DomainName) (z : Records) → list_any (is_apex_ns o) (map (incremented o) z) ≡ list_any (is_apex_ns o) z
@@ -82,7 +82,7 @@ module _ (identity : Identity) (same_type : OfOneType) where
 
   pub ns_kept : RecordsKeep HasNs
   ns_kept =
-      records_kept HasNs (λ o rs z h. ns_stays same_type o rs z h) (λ o z h. ns_next o z ∙ h)
+      records_kept HasNs (λ f o rs z h. ns_stays same_type f o rs z h) (λ o z h. ns_next o z ∙ h)
       (λ o z w e h. sym (any_same identity (is_apex_ns o) (both_respect (is_at o) (is_type 2) (name_respects identity o) (type_respects identity 2)) z w e) ∙ h)
 
   other_next : (o : DomainName) (name : DomainName) (z : Records) → list_any (λ q. is_at name q && not (is_type 5 q)) (map (incremented o) z) ≡ list_any (λ q. is_at name q && not (is_type 5 q)) z
@@ -90,7 +90,7 @@ module _ (identity : Identity) (same_type : OfOneType) where
 
   pub cnames_kept : RecordsKeep CnamesAlone
   cnames_kept =
-      records_kept CnamesAlone (λ o rs z h. cname_stays o rs z h) (λ o z h name e. other_next o name z ∙ h name (sym (cname_next o name z) ∙ e))
+      records_kept CnamesAlone (λ f o rs z h. cname_stays f o rs z h) (λ o z h name e. other_next o name z ∙ h name (sym (cname_next o name z) ∙ e))
       (λ o z w e h name k. sym (any_same identity (λ q. is_at name q && not (is_type 5 q)) (other_respects identity same_type name) z w e) ∙ h name (any_same identity (λ q. is_at name q && is_type 5 q) (cname_respects identity same_type name) z w e ∙ k))
 
 -- ---- the zones of a server
@@ -105,7 +105,7 @@ back P (x ∷ xs) ys all = back P xs ys (All-tail P x (xs ++ ys) all)
 
 module _ {S V : Type 0} (by : verifier.Ghosts V) (handler : handler_trait.Ghosts (UpdatableZone V)) (signature_for : S → Signer) (Holds : OfZone) (keeps : Keeps by Holds)
     (gives : (h after : UpdatableZone V) (request : ReceivedRequest) (now : ℕ) (answer : Result Bool UpdateFault) (context : Option TSigResponseContext)
-    → handler.update_gives h request now answer context after → AnswersUpdate by h (request, now) answer context after) where
+    → handler.update_gives h request now answer context after → AnswersUpdate false by h (request, now) answer context after) where
   abbrev InHandler : UpdatableZone V → Type 0
   InHandler h = HoldsIn Holds h.zone
 
@@ -114,7 +114,7 @@ module _ {S V : Type 0} (by : verifier.Ghosts V) (handler : handler_trait.Ghosts
 
   handler_kept : (kind : ZoneType) (request : TimedRequest) (h : UpdatableZone V) (given : UpdateGiven) (after : UpdatableZone V)
       → HandlerUpdated handler kind request h given after → InHandler h → InHandler after
-  handler_kept Primary request h (answer, context) after u k = keeps.0 request answer context h after (gives h after request.0 request.1 answer context u.0) k
+  handler_kept Primary request h (answer, context) after u k = keeps.0 false request answer context h after (gives h after request.0 request.1 answer context u.0) k
   handler_kept Secondary request h (answer, context) after u k = subst InHandler (sym u.2) k
   handler_kept External request h (answer, context) after u k = subst InHandler (sym u.2) k
 

@@ -2,7 +2,7 @@
 use Rattle.std.proofs.Common.{◌≡◌, ◌==◌, ◌&&◌, ◌||◌, ℕ, Bool, true, false, not, cond, [], ◌∷◌, ◌++◌, Option, Some, None, Result, Ok, Err, inl, inr, refl, sym, ap, subst, ◌∙◌}
 use Rattle.std.specs.Bool.{MatchBool}
 use Rattle.std.specs.List.{AllByRecursion}
-use Rattle.std.specs.Prelude.{is_some, unwrap_or}
+use Rattle.std.specs.Prelude.{is_some}
 use Rattle.std.specs.Ordering.{is_eq}
 use Rattle.std.proofs.lemmas.Bool.{false≢true}
 use Rattle.wire_messages.specs.Numbers.{type_mx, type_ns}
@@ -35,9 +35,7 @@ use Rattle.hickory_zone.specs.Additionals.{is_hostless, target_start}
 use Rattle.hickory_zone.specs.Handled.{LookedUp, StandsFor, by_no_data, by_no_name, by_records, in_whole, is_held, is_soa, question, records_of}
 use Rattle.hickory_zone.specs.Replies.{RepliesTo, as_zone, denial_soa, whole}
 use Rattle.hickory_zone.specs.Zones.{Records}
-use Rattle.hickory_zone.specs.declared.zone_with_parent.ZoneWithParent.{ZoneWithParent}
-use Rattle.hickory_zone.specs.Parents.{IsGiven, asked_above}
-use Rattle.hickory_server.specs.zone_handler.ZoneReplies.{SaysTheReply, answering}
+use Rattle.hickory_server.specs.zone_handler.ZoneReplies.{SaysTheReply}
 
 first_false : (a b c : Bool) → not (a || (b || c)) ≡ true → a ≡ false
 first_false true b c h = absurd cc
@@ -106,18 +104,3 @@ module _ {H : Type 0} (handler : Ghosts H) (h : H) (zone : MemoryZone) (nx : han
       record { reply = whole 0 true rs [] []; replies = r; says = with_records rs other plain (by_type zone.zone_type (Ok (lookup.Records rs [])) held h) }
   made result (by_no_name held r) h = record { reply = _; replies = r; says = with_soa _ refl (by_type zone.zone_type _ held h) }
   made result (by_no_data held r) h = record { reply = _; replies = r; says = with_soa _ refl (by_type zone.zone_type _ held h) }
-
-module _ (handler : Ghosts ZoneWithParent) (both : ZoneWithParent) (nx : handler.nx_proof_kind_of both ≡ None)
-    (soa : (options : LookupOptions) (flow : Flow) → handler.lookup_gives both (handler.origin_of both) 6 None options flow → LookedUp both.zone.value both.zone.value.origin 6 flow)
-    (held : handler.zone_type_of both ≡ both.zone.value.zone_type) (request : ReceivedRequest) (query : Query) (result : Result AuthLookup LookupError) (contents : Contents) where
-  made_by : (asked : Option MemoryZone) → IsGiven both.zone.value query asked result → HandlerReply handler both (handler.zone_type_of both) (record { request = request; query = query }) result contents
-      → SaysTheReply (unwrap_or asked both.zone.value) request query contents
-  made_by None given h = made handler both both.zone.value nx soa request query contents result given (subst (λ (t : ZoneType). HandlerReply handler both t (record { request = request; query = query }) result contents) held h)
-  made_by (Some parent) given h = record {
-    reply = given.0;
-    replies = given.1;
-    says = (subst (λ (r : Result AuthLookup LookupError). HandlerReply handler both (handler.zone_type_of both) (record { request = request; query = query }) r contents) given.2 h).0;
-  }
-
-  pub made_beside : IsGiven both.zone.value query (asked_above both query) result → HandlerReply handler both (handler.zone_type_of both) (record { request = request; query = query }) result contents → SaysTheReply (answering both query) request query contents
-  made_beside given h = made_by (asked_above both query) given h

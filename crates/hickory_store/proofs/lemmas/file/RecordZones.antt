@@ -1,5 +1,5 @@
 -- Zones of records.
-use Rattle.std.proofs.Common.{◌≡◌, ◌∙◌, ap, sym, refl, subst, ℕ, arith, ◌<◌, ◌≤◌, ◌+◌, ◌-◌, drop, get_or, length, take, [], ◌∷◌, ◌++◌, List, None}
+use Rattle.std.proofs.Common.{◌≡◌, ◌∙◌, ap, sym, refl, subst, ℕ, arith, ◌<◌, ◌≤◌, ◌-◌, drop, get_or, length, take, [], ◌∷◌, ◌++◌, List, None}
 use Rattle.std.specs.Prelude.{◌↔◌, IsTrue}
 use Rattle.std.specs.List.{AllByRecursion}
 use Rattle.std.specs.List.Sorted.{IsStrictlySortedBy}

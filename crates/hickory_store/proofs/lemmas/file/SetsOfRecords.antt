@@ -30,7 +30,7 @@ use Rattle.hickory_base.specs.declared.zone_store.record_set.RecordSet.{RecordSe
 use Rattle.wire_messages.specs.declared.rr.rr_key.RrKey.{RrKey}
 use Rattle.hickory_base.proofs.lemmas.zone_store.SharedSets.{lookup-shared}
 use Rattle.hickory_base.proofs.lemmas.zone_store.ZoneByName.{key_total, of_under, rrset_found}
-use Rattle.hickory_store.specs.updates.Identity.{SameZone, same_record, ttl_at}
+use Rattle.hickory_store.specs.updates.Identity.{SameRrsets, SameZone, same_record, ttl_at}
 use Rattle.hickory_store.specs.representation.ZoneSets.{HoldsSets, PutsSet, or_none, records_under}
 use Rattle.hickory_store.proofs.lemmas.updates.NamedSets.{existing_some, rrset_at}
 use Rattle.hickory_store.proofs.lemmas.updates.RecordByRecord.{itself, of_itself, type-lower}
@@ -252,6 +252,10 @@ existing_same [] (y ∷ ys) e = absurd (cc)
 existing_same (x ∷ xs) [] e = absurd (cc)
 existing_same (x ∷ xs) (y ∷ ys) e = cc
 
+-- each RRset is that of the records
+pub rrsets_of : (rs : Records) (S : Sets) → IsStrictlySortedBy key_cmp (keys_of S) → IsZone S → HoldsSets rs S → SameRrsets (zone_records S) rs
+rrsets_of rs S sorted zone h n t = existing_same (rrset (zone_records S) n t) (rrset rs n t) (rrset_found n t S sorted zone ∙ h n t)
+
 module _ (identity : (a b : Record RData) → IsTrue (same_record a b) ↔ SameRecord a b) where
   pub of_same_record : (q r : Record RData) → same_record q r ≡ true → is_of q.name (type_of q.rdata) r ≡ true
   of_same_record q r h =
@@ -263,5 +267,5 @@ module _ (identity : (a b : Record RData) → IsTrue (same_record a b) ↔ SameR
       let n : DomainName = q.name in
       let t : ℕ = type_of q.rdata in
       sym (ttl_kept (is_of n t) q (of_same_record q) (zone_records S))
-      ∙ ap (λ xs. ttl_at xs q) (existing_same (rrset (zone_records S) n t) (rrset rs n t) (rrset_found n t S sorted zone ∙ h n t))
+      ∙ ap (λ xs. ttl_at xs q) (rrsets_of rs S sorted zone h n t)
       ∙ ttl_kept (is_of n t) q (of_same_record q) rs

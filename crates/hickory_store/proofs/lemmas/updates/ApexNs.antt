@@ -8,9 +8,11 @@ use Rattle.wire_names.specs.rr.domain.NameOrder.{name_cmp_total, name_eq}
 use Rattle.wire_messages.specs.rr.RecordData.{type_of}
 use Rattle.wire_messages.specs.declared.rr.rdata.RData.{RData}
 use Rattle.wire_messages.specs.declared.rr.record.Record.{Record}
-use Rattle.hickory_store.specs.updates.Changes.{is_added, is_deleted_when, in_class, in_rrset, is_in_deleted_rrsets, is_spared, is_type, replaces_rrset, after_record}
+use Rattle.hickory_base.specs.zone_store.ZoneRecords.{is_at}
+use Rattle.hickory_store.specs.updates.Changes.{is_added, is_deleted_when, in_class, in_rrset, is_in_deleted_rrsets, is_spared, is_type, replaces_rrset, after_counted, after_record, counted}
 use Rattle.hickory_store.specs.updates.Identity.{same_data, same_record}
 use Rattle.hickory_store.specs.updates.UpdateLaws.{NsStays, is_apex_ns}
+use Rattle.hickory_store.proofs.lemmas.updates.OneTtl.{any_settled}
 
 abbrev pub Resource : Type 0
 Resource = Record RData
@@ -139,11 +141,16 @@ module _ (same_type : OfOneType) where
   stays_all o z r a b h e = any_kept (is_apex_ns o) (is_apex_ns o) (λ q. not (is_deleted_when o r a b q)) z (λ q n. (n, not_so _ (false_or _ (h q n)))) e
 
   -- not is_spared: another NS of the name is there
-  other_ns : (s t x : Bool) → t ≡ true → (s || (t && not x)) ≡ false → x ≡ true
-  other_ns true t x h e = cc
-  other_ns false true true h e = refl
-  other_ns false true false h e = cc
-  other_ns false false x h e = cc
+  other_in : (s t x : Bool) → t ≡ true → (s || (t && not x)) ≡ false → x ≡ true
+  other_in true t x h e = cc
+  other_in false true true h e = refl
+  other_in false true false h e = cc
+  other_in false false x h e = cc
+
+  other_ns : (f at s t x : Bool) → at ≡ true → t ≡ true → ((f || at) && (s || (t && not x))) ≡ false → x ≡ true
+  other_ns true at s t x k h e = other_in s t x h e
+  other_ns false true s t x k h e = other_in s t x h e
+  other_ns false false s t x k h e = cc
 
   other_stays : (o : DomainName) (z : Records) (r : Resource) (b : Bool) → is_apex_ns o r ≡ true → list_any (λ q. in_rrset r q && not (same_record (in_class r) q)) z ≡ true → list_any (is_apex_ns o) (filter (λ q. not (is_deleted_when o r false b q)) z) ≡ true
   other_stays o z r b n e =
@@ -157,20 +164,25 @@ module _ (same_type : OfOneType) where
       (k, not_so _ (false_or _ (λ g. elim (goes_ns o r q false b k g) [ inl w ↦ cc (w.0) | inr w ↦ cc (w.2, d) ]))))
       e
 
-  turn_cases : (o : DomainName) (z : Records) (r : Resource) (n a b : Bool) → n ≡ is_apex_ns o r → a ≡ is_added z r → b ≡ is_spared z r → list_any (is_apex_ns o) z ≡ true
+  turn_cases : (f : Bool) (o : DomainName) (z : Records) (r : Resource) (n a b : Bool) → n ≡ is_apex_ns o r → a ≡ is_added f z r → b ≡ is_spared f o z r → list_any (is_apex_ns o) z ≡ true
       → list_any (is_apex_ns o) (filter (λ q. not (is_deleted_when o r a b q)) z ++ cond a (r ∷ []) []) ≡ true
-  turn_cases o z r false a b p s t e =
+  turn_cases f o z r false a b p s t e =
       any_front (is_apex_ns o) _ (cond a (r ∷ []) []) (stays_all o z r a b (λ q k g. elim (goes_ns o r q a b k g) [ inl w ↦ cc (w.1, p) | inr w ↦ cc (w.1, p) ]) e)
-  turn_cases o z r true true b p s t e = any_last (is_apex_ns o) (filter (λ q. not (is_deleted_when o r true b q)) z) r (sym p)
-  turn_cases o z r true false true p s t e =
+  turn_cases f o z r true true b p s t e = any_last (is_apex_ns o) (filter (λ q. not (is_deleted_when o r true b q)) z) r (sym p)
+  turn_cases f o z r true false true p s t e =
       any_front (is_apex_ns o) _ [] (stays_all o z r false true (λ q k g. elim (goes_ns o r q false true k g) [ inl w ↦ cc (w.0) | inr w ↦ cc (w.0) ]) e)
-  turn_cases o z r true false false p s t e =
-      any_front (is_apex_ns o) _ [] (other_stays o z r false (sym p) (other_ns (is_type 6 r) (is_type 2 r) _ (and_right (name_eq o r.name) _ (sym p)) (sym t)))
+  turn_cases f o z r true false false p s t e =
+      any_front (is_apex_ns o) _ [] (other_stays o z r false (sym p) (other_ns (not f) (is_at o r) (is_type 6 r) (is_type 2 r) _ (and_left _ _ (sym p)) (and_right (name_eq o r.name) _ (sym p)) (sym t)))
 
-  pub ns_turn : (o : DomainName) (z : Records) (r : Resource) → list_any (is_apex_ns o) z ≡ true → list_any (is_apex_ns o) (after_record o z r) ≡ true
+  ns_counted : (f : Bool) (o : DomainName) (z : Records) (r : Resource) → list_any (is_apex_ns o) z ≡ true → list_any (is_apex_ns o) (after_counted f o z r) ≡ true
+  ns_counted f o z r e =
+      any_settled (is_apex_ns o) (λ q ttl. refl) (f && is_added f z r) r _
+      ∙ turn_cases f o z r (is_apex_ns o r) (is_added f z r) (is_spared f o z r) refl refl refl e
+
+  pub ns_turn : (f : Bool) (o : DomainName) (z : Records) (r : Resource) → list_any (is_apex_ns o) z ≡ true → list_any (is_apex_ns o) (after_record f o z r) ≡ true
   unfolding after_record
-  ns_turn o z r e = turn_cases o z r (is_apex_ns o r) (is_added z r) (is_spared z r) refl refl refl e
+  ns_turn f o z r e = ns_counted f o z (counted f r) e
 
   pub ns_stays : NsStays
-  ns_stays o [] z e = e
-  ns_stays o (r ∷ rs) z e = ns_stays o rs (after_record o z r) (ns_turn o z r e)
+  ns_stays f o [] z e = e
+  ns_stays f o (r ∷ rs) z e = ns_stays f o rs (after_record f o z r) (ns_turn f o z r e)

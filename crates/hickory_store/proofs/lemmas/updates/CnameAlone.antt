@@ -6,9 +6,10 @@ use Rattle.std.proofs.lemmas.List.Folds.{list_any-append}
 use Rattle.wire_names.specs.rr.domain.DomainName.{DomainName}
 use Rattle.wire_names.specs.rr.domain.NameOrder.{name_eq}
 use Rattle.hickory_base.specs.zone_store.ZoneRecords.{is_at}
-use Rattle.hickory_store.specs.updates.Changes.{is_added, is_deleted_when, in_rrset, is_ignored, is_newer, is_spared, adds_nothing_new, is_type, after_record}
+use Rattle.hickory_store.specs.updates.Changes.{is_added, is_deleted_when, in_rrset, is_ignored, is_newer, is_spared, adds_nothing_new, is_type, after_counted, after_record, counted, one_ttl}
 use Rattle.hickory_store.specs.updates.UpdateLaws.{CnameStaysAlone, IsCnameAlone, has_cname, has_other}
 use Rattle.hickory_store.proofs.lemmas.updates.ApexNs.{Records, Resource, and_left, and_right, names, not_true}
+use Rattle.hickory_store.proofs.lemmas.updates.OneTtl.{any_settled}
 
 pub or_none : (a b : Bool) → a ≡ false → b ≡ false → (a || b) ≡ false
 or_none true b h k = cc
@@ -94,10 +95,20 @@ turn_cases o z r true b free alone n h = added z alone r (λ q. not (is_deleted_
 turn_cases o z r false b free alone n h =
     ap (λ xs. has_other xs n) (append_none _) ∙ kept_alone z alone r (λ q. not (is_deleted_when o r false b q)) n (ap (λ xs. has_cname xs n) (sym (append_none _)) ∙ h)
 
-cname_turn : (o : DomainName) (z : Records) (r : Resource) → IsCnameAlone z → IsCnameAlone (after_record o z r)
+settled_alone : (c : Bool) (r : Resource) (z : Records) → IsCnameAlone z → IsCnameAlone (cond c (one_ttl r z) z)
+settled_alone c r z alone n h =
+    any_settled (λ q. is_at n q && not (is_type 5 q)) (λ q ttl. refl) c r z
+    ∙ alone n (sym (any_settled (λ q. is_at n q && is_type 5 q) (λ q ttl. refl) c r z) ∙ h)
+
+cname_counted : (f : Bool) (o : DomainName) (z : Records) (r : Resource) → IsCnameAlone z → IsCnameAlone (after_counted f o z r)
+cname_counted f o z r alone =
+    settled_alone (f && is_added f z r) r _
+    (turn_cases o z r (is_added f z r) (is_spared f o z r) (λ e. and_left (not (is_ignored z r)) (not (adds_nothing_new f z r)) (and_right (r.dns_class == 1) _ e)) alone)
+
+cname_turn : (f : Bool) (o : DomainName) (z : Records) (r : Resource) → IsCnameAlone z → IsCnameAlone (after_record f o z r)
 unfolding after_record
-cname_turn o z r alone = turn_cases o z r (is_added z r) (is_spared z r) (λ e. and_left (not (is_ignored z r)) (not (adds_nothing_new z r)) (and_right (r.dns_class == 1) _ e)) alone
+cname_turn f o z r alone = cname_counted f o z (counted f r) alone
 
 pub cname_stays : CnameStaysAlone
-cname_stays o [] z alone = alone
-cname_stays o (r ∷ rs) z alone = cname_stays o rs (after_record o z r) (cname_turn o z r alone)
+cname_stays f o [] z alone = alone
+cname_stays f o (r ∷ rs) z alone = cname_stays f o rs (after_record f o z r) (cname_turn f o z r alone)

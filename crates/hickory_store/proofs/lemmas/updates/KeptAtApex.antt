@@ -45,15 +45,15 @@ module _ (identity : Identity) (same_type : OfOneType) where
 
   pub soa_kept : {V : Type 0} (by : Ghosts V) → Keeps by HasOneSoa
   soa_kept by =
-      keeps HasOneSoa (λ o rs z h. one_fold identity same_type o rs z h) (λ o z h. (next_soa h.0, one_next identity same_type o z h.0 h.1))
+      keeps HasOneSoa (λ f o rs z h. one_fold identity same_type f o rs z h) (λ o z h. (next_soa h.0, one_next identity same_type o z h.0 h.1))
       (λ o z w e h. (h.0, one_soa_same identity same_type o z w h.0 e h.1)) by
 
   pub ns_kept : {V : Type 0} (by : Ghosts V) → Keeps by HasNs
   ns_kept by =
-      keeps HasNs (λ o rs z h. ns_stays same_type o rs z h) (λ o z h. ns_next o z ∙ h)
+      keeps HasNs (λ f o rs z h. ns_stays same_type f o rs z h) (λ o z h. ns_next o z ∙ h)
       (λ o z w e h. sym (any_same identity (is_apex_ns o) (ns_respects o) z w e) ∙ h) by
 
   pub cname_kept : {V : Type 0} (by : Ghosts V) → Keeps by CnamesAlone
   cname_kept by =
-      keeps CnamesAlone (λ o rs z h. cname_stays o rs z h) (λ o z h name e. other_next o name z ∙ h name (sym (cname_next o name z) ∙ e))
+      keeps CnamesAlone (λ f o rs z h. cname_stays f o rs z h) (λ o z h name e. other_next o name z ∙ h name (sym (cname_next o name z) ∙ e))
       (λ o z w e h name k. sym (any_same identity (λ q. is_at name q && not (is_type 5 q)) (other_respects name) z w e) ∙ h name (any_same identity (λ q. is_at name q && is_type 5 q) (cname_respects name) z w e ∙ k)) by

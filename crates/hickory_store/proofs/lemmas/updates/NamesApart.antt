@@ -7,10 +7,11 @@ use Rattle.wire_names.specs.rr.domain.DomainName.{DomainName}
 use Rattle.wire_names.specs.rr.domain.NameOrder.{name_eq}
 use Rattle.wire_messages.specs.rr.RecordData.{type_of}
 use Rattle.hickory_base.specs.zone_store.ZoneRecords.{is_at}
-use Rattle.hickory_store.specs.updates.Changes.{changes, is_added, after_updates, is_deleted, is_deleted_when, in_class, in_rrset, is_in_deleted_rrsets, is_ignored, is_newer, is_spared, adds_nothing_new, is_type, replaces_rrset, after_record, after_record_when}
+use Rattle.hickory_store.specs.updates.Changes.{changes, is_added, after_updates, is_deleted, is_deleted_when, in_class, in_rrset, is_in_deleted_rrsets, is_ignored, is_newer, is_spared, adds_nothing_new, is_type, replaces_rrset, after_counted, after_record, after_record_when, counted, counted_changes, has_other_ttl, has_ttl, one_ttl}
 use Rattle.hickory_store.specs.updates.Identity.{same_record, ttl_at}
 use Rattle.hickory_store.specs.updates.NameUpdates.{of_name}
 use Rattle.hickory_store.proofs.lemmas.updates.ApexNs.{Records, Resource, and_left, names}
+use Rattle.hickory_store.proofs.lemmas.updates.OneTtl.{any_alike, counted_at, settled_of_name, settled_other}
 use Rattle.hickory_store.proofs.lemmas.file.SetsOfRecords.{append_none, ttl_kept}
 
 pub not_so : (b : Bool) → (b ≡ true → ⊥) → b ≡ false
@@ -83,31 +84,52 @@ module _ (n : DomainName) (r : Resource) (h : is_at n r ≡ true) where
   own_ignored : (z : Records) → is_ignored (of_name n z) r ≡ is_ignored z r
   own_ignored z = cc (own (λ q. not (is_type 5 q)) z, own (λ q. is_type 5 q) z, own (λ q. is_type (type_of r.rdata) q) z, own_set (λ q. not (is_newer r.rdata q.rdata)) z)
 
-  own_stands : (z : Records) → adds_nothing_new (of_name n z) r ≡ adds_nothing_new z r
-  own_stands z = cc (own_ttl z, own_set (λ q. not (same_record r q)) z)
+  -- of the RRset of r the name has what the zone has
+  set_ttl : (z : Records) (q : Resource) → in_rrset r q ≡ true → ttl_at (of_name n z) q ≡ ttl_at z q
+  set_ttl z q t = ttl_kept (is_at n) q (λ x s. named n q x (named n r q h (and_left _ _ t)) (and_left _ _ s)) z
 
-  pub own_comes : (z : Records) → is_added (of_name n z) r ≡ is_added z r
-  own_comes z = cc (own_ignored z, own_stands z)
+  set_step : (z : Records) (q : Resource) (b : Bool) → in_rrset r q ≡ b → (b && not (has_ttl r.ttl (ttl_at (of_name n z) q))) ≡ (b && not (has_ttl r.ttl (ttl_at z q)))
+  set_step z q true e = ap (λ o. not (has_ttl r.ttl o)) (set_ttl z q e)
+  set_step z q false e = refl
 
-  pub own_spared : (z : Records) → is_spared (of_name n z) r ≡ is_spared z r
-  own_spared z = cc (own_set (λ q. not (same_record (in_class r) q)) z)
+  own_other_ttl : (z : Records) → has_other_ttl (of_name n z) r ≡ has_other_ttl z r
+  own_other_ttl z =
+      own_set (λ q. not (has_ttl r.ttl (ttl_at (of_name n z) q))) z
+      ∙ any_alike (λ q. in_rrset r q && not (has_ttl r.ttl (ttl_at (of_name n z) q))) (λ q. in_rrset r q && not (has_ttl r.ttl (ttl_at z q))) (λ q. set_step z q (in_rrset r q) refl) z
+
+  own_stands : (f : Bool) (z : Records) → adds_nothing_new f (of_name n z) r ≡ adds_nothing_new f z r
+  own_stands f z = cc (own_ttl z, own_set (λ q. not (same_record r q)) z, own_other_ttl z)
+
+  pub own_comes : (f : Bool) (z : Records) → is_added f (of_name n z) r ≡ is_added f z r
+  own_comes f z = cc (own_ignored z, own_stands f z)
+
+  pub own_spared : (f : Bool) (o : DomainName) (z : Records) → is_spared f o (of_name n z) r ≡ is_spared f o z r
+  own_spared f o z = cc (own_set (λ q. not (same_record (in_class r) q)) z)
 
   kept_tail : (a : Bool) → of_name n (cond a (r ∷ []) []) ≡ cond a (r ∷ []) []
   kept_tail true = ap (λ b. cond b (r ∷ []) []) h
   kept_tail false = refl
 
-  -- what a turn makes of its own name is its turn on what there is of the name
-  pub own_turn : (origin : DomainName) (z : Records) → of_name n (after_record origin z r) ≡ after_record origin (of_name n z) r
-  unfolding after_record
-  own_turn origin z =
-      let a = is_added z r in
-      let s = is_spared z r in
+  own_when : (f : Bool) (origin : DomainName) (z : Records) (a s : Bool) → of_name n (after_record_when f origin z r a s) ≡ after_record_when f origin (of_name n z) r a s
+  own_when f origin z a s =
       let stays : Resource → Bool = λ q. not (is_deleted_when origin r a s q) in
-      filter-append (is_at n) (filter stays z) (cond a (r ∷ []) [])
+      settled_of_name n r (f && a) (filter stays z ++ cond a (r ∷ []) [])
+      ∙ ap (λ (w : Records). cond (f && a) (one_ttl r w) w)
+      (filter-append (is_at n) (filter stays z) (cond a (r ∷ []) [])
       ∙ ap (λ w. w ++ of_name n (cond a (r ∷ []) [])) (filter_swap (is_at n) stays z)
-      ∙ ap (λ w. filter stays (of_name n z) ++ w) (kept_tail a)
-      ∙ sym (ap (λ b. after_record_when origin (of_name n z) r b s) (own_comes z))
-      ∙ sym (ap (λ b. after_record_when origin (of_name n z) r (is_added (of_name n z) r) b) (own_spared z))
+      ∙ ap (λ w. filter stays (of_name n z) ++ w) (kept_tail a))
+
+  pub own_counted : (f : Bool) (origin : DomainName) (z : Records) → of_name n (after_counted f origin z r) ≡ after_counted f origin (of_name n z) r
+  own_counted f origin z =
+      own_when f origin z (is_added f z r) (is_spared f origin z r)
+      ∙ sym (ap (λ b. after_record_when f origin (of_name n z) r b (is_spared f origin z r)) (own_comes f z))
+      ∙ sym (ap (λ b. after_record_when f origin (of_name n z) r (is_added f (of_name n z) r) b) (own_spared f origin z))
+
+-- what a turn makes of its own name is its turn on what there is of the name
+pub own_turn : (f : Bool) (n : DomainName) (r : Resource) → is_at n r ≡ true → (origin : DomainName) (z : Records)
+    → of_name n (after_record f origin z r) ≡ after_record f origin (of_name n z) r
+unfolding after_record
+own_turn f n r h origin z = own_counted n (counted f r) (counted_at f n r ∙ h) f origin z
 
 -- ---- and on others
 
@@ -135,36 +157,46 @@ module _ (n : DomainName) (r : Resource) (h : is_at n r ≡ false) where
   stays_so true e = absurd (cc)
   stays_so false e = refl
 
-  pub other_turn : (origin : DomainName) (z : Records) → of_name n (after_record origin z r) ≡ of_name n z
-  unfolding after_record
-  other_turn origin z =
-      let a = is_added z r in
-      let s = is_spared z r in
+  not_of_set : (q : Resource) → is_at n q ≡ true → in_rrset r q ≡ false
+  not_of_set q t = first_false (is_at r.name q) _ (not_named n r q h t)
+
+  other_counted : (f : Bool) (origin : DomainName) (z : Records) → of_name n (after_counted f origin z r) ≡ of_name n z
+  other_counted f origin z =
+      let a = is_added f z r in
+      let s = is_spared f origin z r in
       let stays : Resource → Bool = λ q. not (is_deleted_when origin r a s q) in
-      filter-append (is_at n) (filter stays z) (cond a (r ∷ []) [])
+      settled_other n r not_of_set (f && a) (filter stays z ++ cond a (r ∷ []) [])
+      ∙ filter-append (is_at n) (filter stays z) (cond a (r ∷ []) [])
       ∙ ap (λ w. of_name n (filter stays z) ++ w) (lost_tail a)
       ∙ append_none _
       ∙ filter_keep (is_at n) stays
       (λ q t. stays_so _ (not_so _ (λ g. let u : is_at r.name q ≡ true = goes_named origin r a s q g in let v : is_at r.name q ≡ false = not_named n r q h t in cc))) z
 
+pub other_turn : (f : Bool) (n : DomainName) (r : Resource) → is_at n r ≡ false → (origin : DomainName) (z : Records) → of_name n (after_record f origin z r) ≡ of_name n z
+unfolding after_record
+other_turn f n r h origin z = other_counted n (counted f r) (counted_at f n r ∙ h) f origin z
+
 -- ---- the fold
 
-module _ (origin n : DomainName) where
+module _ (f : Bool) (origin n : DomainName) where
   fold_step : (r : Resource) (rs z : Records) (b : Bool) → is_at n r ≡ b
-      → after_updates origin (of_name n (after_record origin z r)) (of_name n rs) ≡ after_updates origin (of_name n z) (cond b (r ∷ of_name n rs) (of_name n rs))
-  fold_step r rs z true e = ap (λ w. after_updates origin w (of_name n rs)) (own_turn n r e origin z)
-  fold_step r rs z false e = ap (λ w. after_updates origin w (of_name n rs)) (other_turn n r e origin z)
+      → after_updates f origin (of_name n (after_record f origin z r)) (of_name n rs) ≡ after_updates f origin (of_name n z) (cond b (r ∷ of_name n rs) (of_name n rs))
+  fold_step r rs z true e = ap (λ w. after_updates f origin w (of_name n rs)) (own_turn f n r e origin z)
+  fold_step r rs z false e = ap (λ w. after_updates f origin w (of_name n rs)) (other_turn f n r e origin z)
 
-  pub fold_by_name : (rs z : Records) → of_name n (after_updates origin z rs) ≡ after_updates origin (of_name n z) (of_name n rs)
+  pub fold_by_name : (rs z : Records) → of_name n (after_updates f origin z rs) ≡ after_updates f origin (of_name n z) (of_name n rs)
   fold_by_name [] z = refl
-  fold_by_name (r ∷ rs) z = fold_by_name rs (after_record origin z r) ∙ fold_step r rs z (is_at n r) refl
+  fold_by_name (r ∷ rs) z = fold_by_name rs (after_record f origin z r) ∙ fold_step r rs z (is_at n r) refl
 
 -- ---- whether it changes anything
 
-pub own_changes : (n : DomainName) (r : Resource) (h : is_at n r ≡ true) (origin : DomainName) (z : Records) → changes origin (of_name n z) r ≡ changes origin z r
-unfolding changes
-own_changes n r h origin z =
+own_counted_changes : (f : Bool) (n : DomainName) (r : Resource) (h : is_at n r ≡ true) (origin : DomainName) (z : Records) → counted_changes f origin (of_name n z) r ≡ counted_changes f origin z r
+own_counted_changes f n r h origin z =
     let w = of_name n z in
-    ap (λ b. list_any (is_deleted_when origin r b (is_spared w r)) w || b) (own_comes n r h z)
-    ∙ ap (λ b. list_any (is_deleted_when origin r (is_added z r) b) w || is_added z r) (own_spared n r h z)
-    ∙ ap (λ b. b || is_added z r) (any_within (is_deleted origin z r) (is_at n) (λ q t. named n r q h (goes_named origin r _ _ q t)) z)
+    ap (λ b. list_any (is_deleted_when origin r b (is_spared f origin w r)) w || b) (own_comes n r h f z)
+    ∙ ap (λ b. list_any (is_deleted_when origin r (is_added f z r) b) w || is_added f z r) (own_spared n r h f origin z)
+    ∙ ap (λ b. b || is_added f z r) (any_within (is_deleted f origin z r) (is_at n) (λ q t. named n r q h (goes_named origin r _ _ q t)) z)
+
+pub own_changes : (f : Bool) (n : DomainName) (r : Resource) → is_at n r ≡ true → (origin : DomainName) (z : Records) → changes f origin (of_name n z) r ≡ changes f origin z r
+unfolding changes
+own_changes f n r h origin z = own_counted_changes f n (counted f r) (counted_at f n r ∙ h) origin z

@@ -8,13 +8,14 @@ use Rattle.wire_messages.specs.rr.RecordSameness.{SameData, SameRecord, lower_da
 use Rattle.wire_messages.specs.declared.rr.rdata.RData.{RData}
 use Rattle.wire_messages.specs.declared.rr.rdata.RData.TheVariants as rdata
 use Rattle.hickory_base.specs.zone_store.ZoneRecords.{is_at}
-use Rattle.hickory_store.specs.updates.Changes.{is_added, after_updates, is_deleted_when, is_spared, is_type, after_record}
+use Rattle.hickory_store.specs.updates.Changes.{is_added, after_updates, is_deleted_when, is_spared, is_type, after_counted, after_record, counted, one_ttl}
 use Rattle.hickory_store.specs.updates.Identity.{SameZone, same_record}
 use Rattle.hickory_store.specs.updates.UpdateAnswers.{incremented, is_apex_soa, next_data}
 use Rattle.hickory_store.specs.updates.UpdateLaws.{HasOneSoa, IsOneSoa}
 use Rattle.hickory_store.proofs.lemmas.updates.ApexNs.{OfOneType, Records, Resource, and_both, and_left, any_front, any_kept, any_last, false_or, not_so}
 use Rattle.hickory_store.proofs.lemmas.updates.ApexSoa.{goes_soa, six_spared, soa_goes}
 use Rattle.hickory_store.proofs.lemmas.updates.CnameAlone.{and_false, first_false, none_kept, or_none}
+use Rattle.hickory_store.proofs.lemmas.updates.OneTtl.{any_settled}
 use Rattle.hickory_store.proofs.lemmas.updates.SameZones.{Identity, Respects, any_same, both_respect, name_respects, not_respects, passes, same_itself, same_respects, type_respects}
 use Rattle.hickory_store.proofs.lemmas.updates.SerialSteps.{apex_next, or_first, or_rest}
 
@@ -105,13 +106,13 @@ module _ (identity : Identity) (same_type : OfOneType) where
 
   -- ---- a turn
 
-  stays_soa : (o : DomainName) (z : Records) (r s : Resource) (a b : Bool) → b ≡ is_spared z r → ((a ≡ true) × (is_apex_soa o r ≡ true) → ⊥) → IsOneSoa o z s
+  stays_soa : (f : Bool) (o : DomainName) (z : Records) (r s : Resource) (a b : Bool) → b ≡ is_spared f o z r → ((a ≡ true) × (is_apex_soa o r ≡ true) → ⊥) → IsOneSoa o z s
       → IsOneSoa o (filter (λ q. not (is_deleted_when o r a b q)) z ++ cond a (r ∷ []) []) s
-  stays_soa o z r s a b t never h =
+  stays_soa f o z r s a b t never h =
       let keep : Resource → Bool = λ q. not (is_deleted_when o r a b q) in
       let other : Resource → Bool = λ q. is_apex_soa o q && not (same_record s q) in
       let kept : (q : Resource) → is_apex_soa o q ≡ true → keep q ≡ true =
-      λ q n. not_so _ (false_or _ (λ g. elim (goes_soa same_type o r q a b n g) [ inl w ↦ never w | inr w ↦ six_spared same_type (is_type 6 r) _ w.1 (sym t ∙ w.0) ])) in (
+      λ q n. not_so _ (false_or _ (λ g. elim (goes_soa same_type o r q a b n g) [ inl w ↦ never w | inr w ↦ six_spared same_type f o z r w.1 (sym t ∙ w.0) ])) in (
         h.0,
         any_front (same_record s) (filter keep z) (cond a (r ∷ []) []) (any_kept (same_record s) (same_record s) keep z (λ q e. (e, kept q (soa_respects o s q e ∙ h.0))) h.1),
         list_any-append other (filter keep z) (cond a (r ∷ []) [])
@@ -130,22 +131,36 @@ module _ (identity : Identity) (same_type : OfOneType) where
       )
 
   -- the one SOA after a turn is that of before, or the record that came
-  abbrev pub After : DomainName → Records → Resource → Resource → Records → Type 0
-  After o z r s w = (t : Resource) × IsOneSoa o w t × ((t ≡ s) ⊎ ((t ≡ r) × (is_added z r ≡ true)))
+  abbrev pub After : Bool → DomainName → Records → Resource → Resource → Records → Type 0
+  After f o z r s w = (t : Resource) × IsOneSoa o w t × ((t ≡ s) ⊎ ((t ≡ r) × (is_added f z r ≡ true)))
 
-  one_cases : (o : DomainName) (z : Records) (r s : Resource) (n a b : Bool) → is_apex_soa o r ≡ n → a ≡ is_added z r → b ≡ is_spared z r → IsOneSoa o z s
-      → After o z r s (filter (λ q. not (is_deleted_when o r a b q)) z ++ cond a (r ∷ []) [])
-  one_cases o z r s false a b p e t h = (s, stays_soa o z r s a b t (λ w. cc (w.1, p)) h, inl refl)
-  one_cases o z r s true true b p e t h = (r, comes_soa o z r b p (and_left _ _ (sym e)), inr (refl, sym e))
-  one_cases o z r s true false b p e t h = (s, stays_soa o z r s false b t (λ w. cc (w.0)) h, inl refl)
+  one_cases : (f : Bool) (o : DomainName) (z : Records) (r s : Resource) (n a b : Bool) → is_apex_soa o r ≡ n → a ≡ is_added f z r → b ≡ is_spared f o z r → IsOneSoa o z s
+      → After f o z r s (filter (λ q. not (is_deleted_when o r a b q)) z ++ cond a (r ∷ []) [])
+  one_cases f o z r s false a b p e t h = (s, stays_soa f o z r s a b t (λ w. cc (w.1, p)) h, inl refl)
+  one_cases f o z r s true true b p e t h = (r, comes_soa o z r b p (and_left _ _ (sym e)), inr (refl, sym e))
+  one_cases f o z r s true false b p e t h = (s, stays_soa f o z r s false b t (λ w. cc (w.0)) h, inl refl)
 
-  pub one_turn : (o : DomainName) (z : Records) (r s : Resource) → IsOneSoa o z s → After o z r s (after_record o z r)
+  settled_soa : (c : Bool) (o : DomainName) (r : Resource) (z : Records) (s : Resource) → IsOneSoa o z s → IsOneSoa o (cond c (one_ttl r z) z) s
+  settled_soa c o r z s h = (
+    h.0,
+    any_settled (same_record s) (λ q ttl. refl) c r z ∙ h.1,
+    any_settled (λ q. is_apex_soa o q && not (same_record s q)) (λ q ttl. refl) c r z ∙ h.2,
+  )
+
+  one_counted : (f : Bool) (o : DomainName) (z : Records) (r s : Resource) → IsOneSoa o z s → After f o z r s (after_counted f o z r)
+  one_counted f o z r s h =
+      let t : After f o z r s (filter (λ q. not (is_deleted_when o r (is_added f z r) (is_spared f o z r) q)) z ++ cond (is_added f z r) (r ∷ []) []) =
+      one_cases f o z r s (is_apex_soa o r) (is_added f z r) (is_spared f o z r) refl refl refl h in
+      (t.0, settled_soa (f && is_added f z r) o r _ t.0 t.1, t.2)
+
+  pub one_turn : (f : Bool) (o : DomainName) (z : Records) (r s : Resource) → IsOneSoa o z s → After f o z (counted f r) s (after_record f o z r)
   unfolding after_record
-  one_turn o z r s h = one_cases o z r s (is_apex_soa o r) (is_added z r) (is_spared z r) refl refl refl h
+  one_turn f o z r s h = one_counted f o z (counted f r) s h
 
-  pub one_fold : (o : DomainName) (rs z : Records) → HasOneSoa o z → HasOneSoa o (after_updates o z rs)
-  one_fold o [] z h = h
-  one_fold o (r ∷ rs) z h = let t : After o z r h.0 (after_record o z r) = one_turn o z r h.0 h.1 in one_fold o rs (after_record o z r) (t.0, t.1)
+  pub one_fold : (f : Bool) (o : DomainName) (rs z : Records) → HasOneSoa o z → HasOneSoa o (after_updates f o z rs)
+  one_fold f o [] z h = h
+  one_fold f o (r ∷ rs) z h =
+      let t : After f o z (counted f r) h.0 (after_record f o z r) = one_turn f o z r h.0 h.1 in one_fold f o rs (after_record f o z r) (t.0, t.1)
 
   -- ---- the increment
 

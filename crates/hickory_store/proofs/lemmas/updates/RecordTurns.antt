@@ -203,48 +203,48 @@ module _ (z : Records) (r : Resource) where
     another : Resource → Bool
     another q = in_rrset r q && not (same_record r q)
 
-    nothing_new : adds_nothing_new z r ≡ true → AddsNothingNew z r
+    nothing_new : adds_nothing_new false z r ≡ true → AddsNothingNew z r
     unfolding another
     nothing_new h = (
       ttl_is (ttl_at z r) r.ttl (and_left _ _ h),
       λ alone q c i. (identity r q).0 (true_or (same_record r q) (λ apart.
           clash (replaces_rrset r && list_any another z)
           (and_both (replaces_rrset r) _ (is_alone r alone) (any_in another q z (In-from_Contains q z c) (and_both (in_rrset r q) _ (rrset_of r q i) (not_so _ apart))))
-          (not_true _ (and_right (has_ttl r.ttl (ttl_at z r)) _ h)))),
+          (not_true _ (and_left _ _ (and_right (has_ttl r.ttl (ttl_at z r)) _ h))))),
     )
 
-    is_nothing_new : AddsNothingNew z r → adds_nothing_new z r ≡ true
+    is_nothing_new : AddsNothingNew z r → adds_nothing_new false z r ≡ true
     unfolding another
     is_nothing_new s =
         and_both (has_ttl r.ttl (ttl_at z r)) _ (is_ttl (ttl_at z r) r.ttl s.0)
-        (not_so _ (false_or (replaces_rrset r && list_any another z) (λ t.
+        (and_both _ true (not_so _ (false_or (replaces_rrset r && list_any another z) (λ t.
         let f : Found another z = in_any another z (and_right (replaces_rrset r) _ t) in
         clash (same_record r f.element)
         ((identity r f.element).1 (s.1 (alone_is r (and_left _ _ t)) f.element (Contains-from_In f.element z f.is_in) (of_rrset r f.element (and_left _ _ f.passes))))
-        (not_true _ (and_right (in_rrset r f.element) _ f.passes)))))
+        (not_true _ (and_right (in_rrset r f.element) _ f.passes))))) refl)
 
-    pub added : is_added z r ≡ true → IsAdded z r
+    pub added : is_added false z r ≡ true → IsAdded z r
     added h =
         let rest = and_right (nat_eq r.dns_class 1) _ h in (
           nat_eq_is r.dns_class 1 (and_left _ _ h),
           λ i. clash (is_ignored z r) (is_so_ignored i) (not_true _ (and_left _ _ rest)),
-          λ n. clash (adds_nothing_new z r) (is_nothing_new n) (not_true _ (and_right (not (is_ignored z r)) _ rest)),
+          λ n. clash (adds_nothing_new false z r) (is_nothing_new n) (not_true _ (and_right (not (is_ignored z r)) _ rest)),
         )
 
-    pub is_so_added : IsAdded z r → is_added z r ≡ true
+    pub is_so_added : IsAdded z r → is_added false z r ≡ true
     is_so_added s =
         and_both (nat_eq r.dns_class 1) _ (nat_eq_so r.dns_class 1 s.0)
-        (and_both _ _ (not_so _ (false_or (is_ignored z r) (λ h. s.1 (ignored h)))) (not_so _ (false_or (adds_nothing_new z r) (λ h. s.2 (nothing_new h)))))
+        (and_both _ _ (not_so _ (false_or (is_ignored z r) (λ h. s.1 (ignored h)))) (not_so _ (false_or (adds_nothing_new false z r) (λ h. s.2 (nothing_new h)))))
 
 -- ---- what is deleted
 
 module _ (identity : Identity) (o : DomainName) (z : Records) (r : Resource) where
-  not_soa : is_spared z r ≡ false → type_of r.rdata ≢ 6
-  not_soa h e = clash (is_spared z r) (first_or (is_type 6 r) _ (nat_eq_so (type_of r.rdata) 6 e)) h
+  not_soa : is_spared false o z r ≡ false → type_of r.rdata ≢ 6
+  not_soa h e = clash (is_spared false o z r) (first_or (is_type 6 r) _ (nat_eq_so (type_of r.rdata) 6 e)) h
 
-  not_only : is_spared z r ≡ false → ¬ (IsOnlyNs z r)
+  not_only : is_spared false o z r ≡ false → ¬ (IsOnlyNs z r)
   not_only h only =
-      clash (is_spared z r)
+      clash (is_spared false o z r)
       (or_second (is_type 6 r) _
       (and_both (is_type 2 r) _ (nat_eq_so (type_of r.rdata) 2 only.0)
       (not_so (list_any (λ q. in_rrset r q && not (same_record (in_class r) q)) z)
@@ -253,9 +253,9 @@ module _ (identity : Identity) (o : DomainName) (z : Records) (r : Resource) whe
       clash (same_record (in_class r) q) ((identity (in_class r) q).1 (only.1 q (Contains-from_In q z is) (of_rrset r q (and_left _ _ t)))) (not_true _ (and_right (in_rrset r q) _ t))))))))
       h
 
-  unspared : type_of r.rdata ≢ 6 → ¬ (IsOnlyNs z r) → is_spared z r ≡ false
+  unspared : type_of r.rdata ≢ 6 → ¬ (IsOnlyNs z r) → is_spared false o z r ≡ false
   unspared no_soa no_only =
-      false_or (is_spared z r) (λ h. elim (one_of (is_type 6 r) (is_type 2 r && not (list_any (λ q. in_rrset r q && not (same_record (in_class r) q)) z)) h) as (λ _. ⊥) [
+      false_or (is_spared false o z r) (λ h. elim (one_of (is_type 6 r) (is_type 2 r && not (list_any (λ q. in_rrset r q && not (same_record (in_class r) q)) z)) h) as (λ _. ⊥) [
         | inl six ↦ no_soa (nat_eq_is (type_of r.rdata) 6 six)
         | inr two ↦ no_only (
           nat_eq_is (type_of r.rdata) 2 (and_left _ _ two),
@@ -284,9 +284,9 @@ module _ (identity : Identity) (o : DomainName) (z : Records) (r : Resource) whe
   none_class (inr (inl e)) h k = clash (nat_eq r.dns_class 255) (nat_eq_so r.dns_class 255 e) k
   none_class (inr (inr e)) h k = e
 
-  deletes : (q : Resource) → HasUpdateClass r → is_deleted o z r q ≡ true → Deletes o z r q
+  deletes : (q : Resource) → HasUpdateClass r → is_deleted false o z r q ≡ true → Deletes o z r q
   deletes q class h =
-      elim (deleting (nat_eq r.dns_class 1) (is_added z r) (replaces_rrset r) (in_rrset r q) (same_record r q) (nat_eq r.dns_class 255) (is_in_deleted_rrsets o r q) (is_spared z r) (same_record (in_class r) q) h) as (λ _. Deletes o z r q) [
+      elim (deleting (nat_eq r.dns_class 1) (is_added false z r) (replaces_rrset r) (in_rrset r q) (same_record r q) (nat_eq r.dns_class 255) (is_in_deleted_rrsets o r q) (is_spared false o z r) (same_record (in_class r) q) h) as (λ _. Deletes o z r q) [
         | inl w ↦ Deletes.replaces_rrset (added z r identity w.0) (alone_is r w.1) (of_rrset r q w.2)
         | inr v ↦ elim v as (λ _. Deletes o z r q) [
           | inl w ↦ Deletes.replaces_record (added z r identity w.0) ((identity r q).0 w.1)
@@ -304,11 +304,11 @@ module _ (identity : Identity) (o : DomainName) (z : Records) (r : Resource) whe
   other_class : (n : ℕ) → r.dns_class ≡ n → nat_eq n 1 ≡ false → nat_eq r.dns_class 1 ≡ false
   other_class n e h = ap (λ k. nat_eq k 1) e ∙ h
 
-  is_so : (q : Resource) → Deletes o z r q → is_deleted o z r q ≡ true
+  is_so : (q : Resource) → Deletes o z r q → is_deleted false o z r q ≡ true
   is_so q (Deletes.replaces_record comes same) =
-      by_record (nat_eq r.dns_class 1) (is_added z r) (replaces_rrset r) (in_rrset r q) (same_record r q) _ (nat_eq_so r.dns_class 1 comes.0) (is_so_added z r identity comes) (λ _. same_rrset q same) ((identity r q).1 same)
+      by_record (nat_eq r.dns_class 1) (is_added false z r) (replaces_rrset r) (in_rrset r q) (same_record r q) _ (nat_eq_so r.dns_class 1 comes.0) (is_so_added z r identity comes) (λ _. same_rrset q same) ((identity r q).1 same)
   is_so q (Deletes.replaces_rrset comes alone of) =
-      by_rrset (nat_eq r.dns_class 1) (is_added z r) (replaces_rrset r) (in_rrset r q) (same_record r q) _ (nat_eq_so r.dns_class 1 comes.0) (is_so_added z r identity comes) (is_alone r alone) (rrset_of r q of)
+      by_rrset (nat_eq r.dns_class 1) (is_added false z r) (replaces_rrset r) (in_rrset r q) (same_record r q) _ (nat_eq_so r.dns_class 1 comes.0) (is_so_added z r identity comes) (is_alone r alone) (rrset_of r q of)
   is_so q (Deletes.deletes_rrset any of kept) =
       by_any (nat_eq r.dns_class 1) (nat_eq r.dns_class 255) (is_in_deleted_rrsets o r q) _ _ (other_class 255 any refl) (nat_eq_so r.dns_class 255 any)
       (and_both (is_at r.name q) _ (eq_from_same r.name q.name of.0) (and_both _ _ (or_second (is_type 255 r) _ (nat_eq_so (type_of q.rdata) (type_of r.rdata) of.1)) (outside_apex q kept)))
@@ -316,25 +316,25 @@ module _ (identity : Identity) (o : DomainName) (z : Records) (r : Resource) whe
       by_any (nat_eq r.dns_class 1) (nat_eq r.dns_class 255) (is_in_deleted_rrsets o r q) _ _ (other_class 255 any refl) (nat_eq_so r.dns_class 255 any)
       (and_both (is_at r.name q) _ (eq_from_same r.name q.name at) (and_both _ _ (first_or (is_type 255 r) _ (nat_eq_so (type_of r.rdata) 255 all)) (outside_apex q kept)))
   is_so q (Deletes.deletes_record none same no_soa no_only) =
-      by_none (nat_eq r.dns_class 1) (nat_eq r.dns_class 255) (is_in_deleted_rrsets o r q) (is_spared z r) (same_record (in_class r) q) _ (other_class 254 none refl)
+      by_none (nat_eq r.dns_class 1) (nat_eq r.dns_class 255) (is_in_deleted_rrsets o r q) (is_spared false o z r) (same_record (in_class r) q) _ (other_class 254 none refl)
       (ap (λ k. nat_eq k 255) none) (unspared no_soa no_only) ((identity (in_class r) q).1 same)
 
-  to_standing : (q : Resource) → HasUpdateClass r → Contains (after_record o z r) q → StandsAfter o z r q
+  to_standing : (q : Resource) → HasUpdateClass r → Contains (after_record false o z r) q → StandsAfter o z r q
   unfolding after_record
   to_standing q class c =
-      elim (Contains-append_cases (filter (λ q. not (is_deleted o z r q)) z) (cond (is_added z r) (r ∷ []) []) q c) as (λ _. StandsAfter o z r q) [
-        | inl kept ↦ let both = in_filter (λ q. not (is_deleted o z r q)) q z (In-from_Contains q _ kept) in
-            inr (Contains-from_In q z both.0, λ d. clash (is_deleted o z r q) (is_so q d) (not_true _ both.1))
-        | inr last ↦ let l = last_is (is_added z r) r q last in inl (l.0, added z r identity l.1)
+      elim (Contains-append_cases (filter (λ q. not (is_deleted false o z r q)) z) (cond (is_added false z r) (r ∷ []) []) q c) as (λ _. StandsAfter o z r q) [
+        | inl kept ↦ let both = in_filter (λ q. not (is_deleted false o z r q)) q z (In-from_Contains q _ kept) in
+            inr (Contains-from_In q z both.0, λ d. clash (is_deleted false o z r q) (is_so q d) (not_true _ both.1))
+        | inr last ↦ let l = last_is (is_added false z r) r q last in inl (l.0, added z r identity l.1)
       ]
 
-  from_standing : (q : Resource) → HasUpdateClass r → StandsAfter o z r q → Contains (after_record o z r) q
+  from_standing : (q : Resource) → HasUpdateClass r → StandsAfter o z r q → Contains (after_record false o z r) q
   unfolding after_record
   from_standing q class (inl last) =
-      Contains-append_right (filter (λ q. not (is_deleted o z r q)) z) (cond (is_added z r) (r ∷ []) []) q (is_last (is_added z r) r q (is_so_added z r identity last.1) last.0)
+      Contains-append_right (filter (λ q. not (is_deleted false o z r q)) z) (cond (is_added false z r) (r ∷ []) []) q (is_last (is_added false z r) r q (is_so_added z r identity last.1) last.0)
   from_standing q class (inr stood) =
-      Contains-append_left (filter (λ q. not (is_deleted o z r q)) z) (cond (is_added z r) (r ∷ []) []) q
-      (Contains-from_In q _ (filter_in (λ q. not (is_deleted o z r q)) q z (In-from_Contains q z stood.0) (not_so _ (false_or (is_deleted o z r q) (λ h. stood.1 (deletes q class h))))))
+      Contains-append_left (filter (λ q. not (is_deleted false o z r q)) z) (cond (is_added false z r) (r ∷ []) []) q
+      (Contains-from_In q _ (filter_in (λ q. not (is_deleted false o z r q)) q z (In-from_Contains q z stood.0) (not_so _ (false_or (is_deleted false o z r q) (λ h. stood.1 (deletes q class h))))))
 
 pub records_stand_after : Identity → RecordsStandAfter
 records_stand_after identity o z r q class = (to_standing identity o z r q class, from_standing identity o z r q class)

@@ -11,7 +11,6 @@ use Rattle.wire_messages.specs.rr.RecordData.{type_of}
 use Rattle.wire_messages.specs.rr.RecordSameness.{lower_data}
 use Rattle.wire_messages.specs.declared.rr.rdata.RData.{RData}
 use Rattle.wire_messages.specs.declared.rr.rdata.RData.TheVariants as rdata
-use Rattle.wire_names.proofs.lemmas.rr.domain.SameNames.{both_ways}
 use Rattle.hickory_base.specs.zone_store.ZoneRecords.{is_at}
 use Rattle.hickory_base.specs.zone_store.ZoneSets.{IsSoaData}
 use Rattle.hickory_store.specs.updates.Changes.{is_added, after_updates, is_deleted_when, has_ttl, in_rrset, is_in_deleted_rrsets, is_ignored, is_newer, is_spared, adds_nothing_new, is_type, replaces_rrset, after_record}
@@ -25,7 +24,7 @@ use Rattle.hickory_store.proofs.lemmas.updates.ApexSoa.{soa_goes}
 use Rattle.hickory_store.proofs.lemmas.updates.CnameAlone.{named_alike, none_kept, or_none, other_free}
 use Rattle.hickory_store.proofs.lemmas.updates.KeptAtApex.{cname_next, cname_respects, other_respects}
 use Rattle.hickory_store.proofs.lemmas.updates.OneSoa.{After, next_soa, one_next, one_soa_same, one_turn, only_soa, soa_respects, tail_none}
-use Rattle.hickory_store.proofs.lemmas.updates.SameZones.{Identity, Respects, any_same, both_respect, found, goes_respects, not_respects, passes, same_respects, same_turned, same_via, newer_respects, some_ttl, ttl_append, ttl_filter, rrset_respects}
+use Rattle.hickory_store.proofs.lemmas.updates.SameZones.{Identity, Respects, any_same, both_respect, found, goes_respects, not_respects, passes, same_respects, same_turned, same_via, newer_respects, some_ttl, ttl_append, ttl_filter, ttl_same, rrset_respects}
 use Rattle.hickory_store.proofs.lemmas.updates.SerialSteps.{apex_next}
 
 -- ---- serials
@@ -78,9 +77,9 @@ newer_lower_first _ e = refl
 
 -- ---- lists
 
-pub fold_both : (o : DomainName) (xs ys z : Records) → after_updates o z (xs ++ ys) ≡ after_updates o (after_updates o z xs) ys
+pub fold_both : (o : DomainName) (xs ys z : Records) → after_updates false o z (xs ++ ys) ≡ after_updates false o (after_updates false o z xs) ys
 fold_both o [] ys z = refl
-fold_both o (x ∷ xs) ys z = fold_both o xs ys (after_record o z x)
+fold_both o (x ∷ xs) ys z = fold_both o xs ys (after_record false o z x)
 
 six_apart : (t : ℕ) → nat_eq t 6 ≡ true → nat_eq t 5 ≡ false
 six_apart t h = grind (arith, nat_tests)
@@ -100,7 +99,7 @@ free_of_newer false true a false true d p q h = cc
 free_of_newer false true a false false true p q h = cc
 free_of_newer false true a false false false p q h = refl
 
-not_there : (t r e : Bool) → r ≡ true → e ≡ true → (t && not (r && e)) ≡ false
+not_there : (t r e : Bool) → r ≡ true → e ≡ true → (t && (not (r && e) && true)) ≡ false
 not_there true true true p q = refl
 not_there false r e p q = refl
 not_there true false e p q = cc
@@ -128,14 +127,6 @@ true_and_false true p q = absurd (cc)
 true_and_false false p q = absurd (cc)
 
 module _ (identity : Identity) (same_type : OfOneType) where
-  -- records of one identity are found as one
-  same_first : (a b r : Resource) → same_record a b ≡ true → same_record a r ≡ same_record b r
-  same_first a b r h = both_ways (same_record a r) (same_record b r) (λ k. same_via identity b a r (same_turned identity a b h) k) (λ k. same_via identity a b r h k)
-
-  ttl_same : (a b : Resource) → same_record a b ≡ true → (z : Records) → ttl_at z a ≡ ttl_at z b
-  ttl_same a b h [] = refl
-  ttl_same a b h (r ∷ z) = ap (λ m. cond m (Some r.ttl) (ttl_at z a)) (same_first a b r h) ∙ ap (λ x. cond (same_record b r) (Some r.ttl) x) (ttl_same a b h z)
-
   -- a record that passes is not there where none passes
   no_pass : (p : Resource → Bool) (z : Records) → ((q : Resource) → list_any (same_record q) z ≡ true → p q ≡ true → ⊥) → list_any p z ≡ false
   no_pass p z h = false_or (list_any p z) (λ e. let f : (q : Resource) × (p q ≡ true) × (list_any (same_record q) z ≡ true) = found identity p z e in h f.0 f.2 f.1)
@@ -158,7 +149,7 @@ module _ (identity : Identity) (same_type : OfOneType) where
   -- ---- a turn
 
   -- an SOA that comes to the apex is newer
-  coming_soa : (o : DomainName) (z : Records) (r s : Resource) → IsOneSoa o z s → is_apex_soa o r ≡ true → is_added z r ≡ true → IsSoa r.rdata
+  coming_soa : (o : DomainName) (z : Records) (r s : Resource) → IsOneSoa o z s → is_apex_soa o r ≡ true → is_added false z r ≡ true → IsSoa r.rdata
   coming_soa o z r s h n k =
       let p : Resource → Bool = λ q. in_rrset r q && not (is_newer r.rdata q.rdata) in
       let free : not (is_ignored z r) ≡ true = and_left _ _ (and_right (r.dns_class == 1) _ k) in
@@ -174,14 +165,14 @@ module _ (identity : Identity) (same_type : OfOneType) where
           (passes identity (λ q. in_rrset r q && not (is_newer r.rdata q.rdata)) (both_respect (in_rrset r) (λ q. not (is_newer r.rdata q.rdata)) (rrset_respects identity r) (not_respects (λ q. is_newer r.rdata q.rdata) (newer_respects identity r.rdata))) s (and_both _ _ (of_apex o r s n h.0) (ap not e)) z h.1) all
 
   -- no CNAME comes beside the SOA
-  no_cname : (o : DomainName) (z : Records) (r s : Resource) (b : Bool) → IsOneSoa o z s → has_cname z o ≡ false → (a : Bool) → a ≡ is_added z r
+  no_cname : (o : DomainName) (z : Records) (r s : Resource) (b : Bool) → IsOneSoa o z s → has_cname z o ≡ false → (a : Bool) → a ≡ is_added false z r
       → has_cname (filter (λ q. not (is_deleted_when o r a b q)) z ++ cond a (r ∷ []) []) o ≡ false
   no_cname o z r s b h e a k =
       let p : Resource → Bool = λ q. is_at o q && is_type 5 q in
       let keep : Resource → Bool = λ q. not (is_deleted_when o r a b q) in
       list_any-append p (filter keep z) (cond a (r ∷ []) []) ∙ or_none _ _ (none_kept p keep z e) (tail_none p r a (λ t. false_or (p r) (λ n. stands n (sym k ∙ t))))
     where
-      stands : (is_at o r && is_type 5 r) ≡ true → is_added z r ≡ true → ⊥
+      stands : (is_at o r && is_type 5 r) ≡ true → is_added false z r ≡ true → ⊥
       stands n t =
           let free : not (is_ignored z r) ≡ true = and_left _ _ (and_right (r.dns_class == 1) _ t) in
           let others : list_any (λ q. is_at r.name q && not (is_type 5 q)) z ≡ false =
@@ -191,15 +182,15 @@ module _ (identity : Identity) (same_type : OfOneType) where
           passes identity (λ q. is_at o q && not (is_type 5 q)) others_respect s (and_both _ _ (and_left _ _ h.0) (ap not (six_apart (type_of s.rdata) (and_right (name_eq o s.name) _ h.0)))) z h.1 in
           true_and_false (list_any (λ q. is_at r.name q && not (is_type 5 q)) z) (sym (named_alike (λ q. not (is_type 5 q)) o r.name (and_left _ _ n) z) ∙ beside) others
 
-  no_cname_turn : (o : DomainName) (z : Records) (r s : Resource) → IsOneSoa o z s → has_cname z o ≡ false → has_cname (after_record o z r) o ≡ false
+  no_cname_turn : (o : DomainName) (z : Records) (r s : Resource) → IsOneSoa o z s → has_cname z o ≡ false → has_cname (after_record false o z r) o ≡ false
   unfolding after_record
-  no_cname_turn o z r s h e = no_cname o z r s (is_spared z r) h e (is_added z r) refl
+  no_cname_turn o z r s h e = no_cname o z r s (is_spared false o z r) h e (is_added false z r) refl
 
-  ready_turn : (o : DomainName) (z : Records) (r : Resource) → Ready o z → Ready o (after_record o z r)
-  ready_turn o z r h = from (one_turn identity same_type o z r h.0 h.1)
+  ready_turn : (o : DomainName) (z : Records) (r : Resource) → Ready o z → Ready o (after_record false o z r)
+  ready_turn o z r h = from (one_turn identity same_type false o z r h.0 h.1)
     where
-      from : After identity same_type o z r h.0 (after_record o z r) → Ready o (after_record o z r)
-      from t = elim t.2 as (λ _. Ready o (after_record o z r)) [
+      from : After identity same_type false o z r h.0 (after_record false o z r) → Ready o (after_record false o z r)
+      from t = elim t.2 as (λ _. Ready o (after_record false o z r)) [
         | inl e ↦ (t.0, t.1, ap (λ (q : Resource). q.dns_class) e ∙ h.2, subst (λ (q : Resource). IsSoa q.rdata) (sym e) h.3, no_cname_turn o z r h.0 h.1 h.4)
         | inr e ↦ (
           t.0,
@@ -210,9 +201,9 @@ module _ (identity : Identity) (same_type : OfOneType) where
         )
       ]
 
-  pub ready_fold : (o : DomainName) (rs z : Records) → Ready o z → Ready o (after_updates o z rs)
+  pub ready_fold : (o : DomainName) (rs z : Records) → Ready o z → Ready o (after_updates false o z rs)
   ready_fold o [] z h = h
-  ready_fold o (r ∷ rs) z h = ready_fold o rs (after_record o z r) (ready_turn o z r h)
+  ready_fold o (r ∷ rs) z h = ready_fold o rs (after_record false o z r) (ready_turn o z r h)
 
   pub ready_next : (o : DomainName) (z : Records) → Ready o z → Ready o (map (incremented o) z)
   ready_next o z h = (next_soa h.0, one_next identity same_type o z h.0 h.1, h.2, next_is_soa h.0.rdata h.3, cname_next o o z ∙ h.4)
@@ -256,12 +247,12 @@ module _ (identity : Identity) (same_type : OfOneType) where
         let same : same_record h.0 q ≡ true = only_soa identity same_type o z h.0 q h.1 (apex_of o x q n (and_left _ _ p)) is in
         true_and_false (is_newer x.rdata q.rdata) (newer_respects identity x.rdata h.0 q same ∙ x_newer) (not_true _ (and_right (in_rrset x q) _ p))))
 
-    x_not_there : adds_nothing_new z x ≡ false
+    x_not_there : adds_nothing_new false z x ≡ false
     x_not_there =
         not_there (has_ttl x.ttl (ttl_at z x)) (replaces_rrset x) (list_any (λ q. in_rrset x q && not (same_record x q)) z) (or_second (is_type 5 x) (is_type 6 x) x_six)
         (passes identity (λ q. in_rrset x q && not (same_record x q)) (both_respect (in_rrset x) (λ q. not (same_record x q)) (rrset_respects identity x) (not_respects (same_record x) (same_respects identity x))) h.0 (and_both _ _ (of_apex o x h.0 n h.1.0) (ap not x_other)) z h.1.1)
 
-    x_comes : is_added z x ≡ true
+    x_comes : is_added false z x ≡ true
     x_comes = and_both _ _ x_class (and_both _ _ (ap not x_not_ignored) (ap not x_not_there))
 
     -- another record is not incremented
@@ -278,7 +269,7 @@ module _ (identity : Identity) (same_type : OfOneType) where
     other_ttl q k (r ∷ w) = next_step q r (ttl_at (map (incremented o) w) q) (is_apex_soa o r) refl k ∙ ap (λ t. cond (same_record q r) (Some r.ttl) t) (other_ttl q k w)
 
     soa_ttl : (q : Resource) (m : Bool) → same_record q x ≡ m → is_apex_soa o q ≡ true → ttl_at after q ≡ cond m (Some x.ttl) None
-    soa_ttl q true e k = ttl_same q x e after ∙ ttl
+    soa_ttl q true e k = ttl_same identity q x e after ∙ ttl
     soa_ttl q false e k =
         none_of (ttl_at after q) (some_ttl after q ∙ false_or (list_any (same_record q) after)
         (λ is. true_and_false (same_record q x) (same_via identity q (next_soa h.0) x (same_turned identity (next_soa h.0) q (only_soa identity same_type o after (next_soa h.0) q one_after k is)) is_next) e))
@@ -306,6 +297,6 @@ module _ (identity : Identity) (same_type : OfOneType) where
         ∙ sym (ttl_append (filter (keep b) z) (x ∷ []) q)
     comes_in false b t q = absurd (cc)
 
-    pub soa_comes : SameZone after (after_record o z x)
+    pub soa_comes : SameZone after (after_record false o z x)
     unfolding after_record
-    soa_comes = comes_in (is_added z x) (is_spared z x) x_comes
+    soa_comes = comes_in (is_added false z x) (is_spared false o z x) x_comes

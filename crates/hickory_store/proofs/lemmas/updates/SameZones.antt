@@ -11,9 +11,10 @@ use Rattle.wire_messages.specs.declared.rr.rdata.RData.{RData}
 use Rattle.wire_messages.specs.declared.rr.rdata.RData.TheVariants as rdata
 use Rattle.wire_names.proofs.lemmas.rr.domain.SameNames.{both_ways, same_order}
 use Rattle.hickory_base.specs.zone_store.ZoneRecords.{is_at}
-use Rattle.hickory_store.specs.updates.Changes.{is_added, after_updates, is_deleted_when, has_ttl, in_class, in_rrset, is_in_deleted_rrsets, is_ignored, is_newer, is_spared, adds_nothing_new, is_type, replaces_rrset, after_record, after_record_when}
+use Rattle.hickory_store.specs.updates.Changes.{is_added, after_updates, is_deleted_when, has_ttl, in_class, in_rrset, is_in_deleted_rrsets, is_ignored, is_newer, is_spared, adds_nothing_new, is_type, replaces_rrset, after_counted, after_record, after_record_when, counted, has_other_ttl, one_ttl}
 use Rattle.hickory_store.specs.updates.Identity.{SameZone, same_record, ttl_at}
-use Rattle.hickory_store.proofs.lemmas.updates.ApexNs.{Records, Resource}
+use Rattle.hickory_store.proofs.lemmas.updates.ApexNs.{Records, Resource, and_left, and_right}
+use Rattle.hickory_store.proofs.lemmas.updates.OneTtl.{any_alike}
 use Rattle.hickory_store.proofs.lemmas.updates.RecordByRecord.{itself}
 use Rattle.hickory_store.proofs.lemmas.updates.UpdatedZones.{same_back, same_type}
 
@@ -168,19 +169,86 @@ module _ (identity : Identity) where
       ∙ ap (λ x. ignored_of (is_type 5 r) (is_type 6 r) (list_any beside w) (list_any cnames w) (list_any (in_rrset r) w) x)
       (any_same serials (both_respect (in_rrset r) (λ q. not (is_newer r.rdata q.rdata)) (rrset_respects r) (not_respects (λ q. is_newer r.rdata q.rdata) (newer_respects r.rdata))) z w h)
 
-  there_same : (z w : Records) (r : Resource) → SameZone z w → adds_nothing_new z r ≡ adds_nothing_new w r
-  there_same z w r h =
-      ap (λ t. has_ttl r.ttl t && not (replaces_rrset r && list_any (λ q. in_rrset r q && not (same_record r q)) z)) (h r)
-      ∙ ap (λ x. has_ttl r.ttl (ttl_at w r) && not (replaces_rrset r && x))
-      (any_same (λ q. in_rrset r q && not (same_record r q)) (both_respect (in_rrset r) (λ q. not (same_record r q)) (rrset_respects r) (not_respects (same_record r) (same_respects r))) z w h)
+  -- records of one identity are found as one
+  pub same_first : (a b r : Resource) → same_record a b ≡ true → same_record a r ≡ same_record b r
+  same_first a b r h = both_ways (same_record a r) (same_record b r) (λ k. same_via b a r (same_turned a b h) k) (λ k. same_via a b r h k)
 
-  comes_same : (z w : Records) (r : Resource) → SameZone z w → is_added z r ≡ is_added w r
-  comes_same z w r h =
-      ap (λ x. (r.dns_class == 1) && (not x && not (adds_nothing_new z r))) (ignored_same z w r h) ∙ ap (λ x. (r.dns_class == 1) && (not (is_ignored w r) && not x)) (there_same z w r h)
+  pub ttl_same : (a b : Resource) → same_record a b ≡ true → (z : Records) → ttl_at z a ≡ ttl_at z b
+  ttl_same a b h [] = refl
+  ttl_same a b h (r ∷ z) = ap (λ m. cond m (Some r.ttl) (ttl_at z a)) (same_first a b r h) ∙ ap (λ x. cond (same_record b r) (Some r.ttl) x) (ttl_same a b h z)
 
-  spared_same : (z w : Records) (r : Resource) → SameZone z w → is_spared z r ≡ is_spared w r
-  spared_same z w r h =
-      ap (λ x. is_type 6 r || (is_type 2 r && not x))
+  pub other_ttl_respects : (z : Records) (r : Resource) → Respects (λ q. in_rrset r q && not (has_ttl r.ttl (ttl_at z q)))
+  other_ttl_respects z r =
+      both_respect (in_rrset r) (λ q. not (has_ttl r.ttl (ttl_at z q))) (rrset_respects r) (λ q x e. ap (λ o. not (has_ttl r.ttl o)) (sym (ttl_same q x e z)))
+
+  other_ttl_same : (z w : Records) (r : Resource) → SameZone z w → has_other_ttl z r ≡ has_other_ttl w r
+  other_ttl_same z w r h =
+      any_same (λ q. in_rrset r q && not (has_ttl r.ttl (ttl_at z q))) (other_ttl_respects z r) z w h
+      ∙ any_alike (λ q. in_rrset r q && not (has_ttl r.ttl (ttl_at z q))) (λ q. in_rrset r q && not (has_ttl r.ttl (ttl_at w q))) (λ q. ap (λ o. in_rrset r q && not (has_ttl r.ttl o)) (h q)) w
+
+  -- a record with another TTL than r is found at the first of its identity
+  module _ (zone : Records) (r : Resource) where
+    abbrev differs : Resource → Bool
+    differs q = in_rrset r q && not (has_ttl r.ttl (ttl_at zone q))
+
+    abbrev differs_itself : Resource → Bool
+    differs_itself q = in_rrset r q && (not (q.ttl == r.ttl) && not (has_ttl r.ttl (ttl_at zone q)))
+
+    weaker : (a b c : Bool) → (a && (b && c)) ≡ true → (a && c) ≡ true
+    weaker true true c h = h
+    weaker true false c h = cc
+    weaker false b c h = cc
+
+    stronger : (a b c d : Bool) → a ≡ true → b ≡ true → (d && c) ≡ true → (a && (b && c)) ≡ true
+    stronger true true c true h k e = e
+    stronger true true c false h k e = cc
+    stronger true false c d h k e = cc
+    stronger false b c d h k e = cc
+
+    weaker_step : (q : Resource) (z : Records) (b : Bool) → differs_itself q ≡ b → (b || list_any differs_itself z) ≡ true
+        → (list_any differs_itself z ≡ true → list_any differs z ≡ true) → (differs q || list_any differs z) ≡ true
+    weaker_step q z true e h m = or_true_left (differs q) (list_any differs z) (weaker (in_rrset r q) (not (q.ttl == r.ttl)) (not (has_ttl r.ttl (ttl_at zone q))) e)
+    weaker_step q z false e h m = or_true_right (differs q) (list_any differs z) (m h)
+
+    any_weaker : (z : Records) → list_any differs_itself z ≡ true → list_any differs z ≡ true
+    any_weaker [] h = h
+    any_weaker (q ∷ z) h = weaker_step q z (differs_itself q) refl h (any_weaker z)
+
+    first_step : (q x : Resource) (z : Records) (b : Bool) → differs q ≡ true → same_record q x ≡ b → (b || list_any (same_record q) z) ≡ true
+        → cond b (Some x.ttl) (ttl_at z q) ≡ ttl_at zone q → (list_any (same_record q) z ≡ true → ttl_at z q ≡ ttl_at zone q → list_any differs_itself z ≡ true)
+        → (differs_itself x || list_any differs_itself z) ≡ true
+    first_step q x z true d s h e m =
+        or_true_left (differs_itself x) (list_any differs_itself z)
+        (stronger (in_rrset r x) (not (x.ttl == r.ttl)) (not (has_ttl r.ttl (ttl_at zone x))) (in_rrset r x)
+        (rrset_respects r q x s ∙ and_left _ _ d)
+        (ap (λ o. not (has_ttl r.ttl o)) e ∙ and_right (in_rrset r q) _ d)
+        (other_ttl_respects zone r q x s ∙ d))
+    first_step q x z false d s h e m = or_true_right (differs_itself x) (list_any differs_itself z) (m h e)
+
+    first_differs : (q : Resource) → differs q ≡ true → (z : Records) → list_any (same_record q) z ≡ true → ttl_at z q ≡ ttl_at zone q → list_any differs_itself z ≡ true
+    first_differs q d [] h e = absurd (cc)
+    first_differs q d (x ∷ z) h e = first_step q x z (same_record q x) d refl h e (first_differs q d z)
+
+    pub other_ttl_found : list_any (λ q. in_rrset r q && (not (q.ttl == r.ttl) && not (has_ttl r.ttl (ttl_at zone q)))) zone ≡ has_other_ttl zone r
+    other_ttl_found =
+        both_ways (list_any differs_itself zone) (list_any differs zone) (any_weaker zone)
+        (λ h. let f : (q : Resource) × (differs q ≡ true) × (list_any (same_record q) zone ≡ true) = found differs zone h in first_differs f.0 f.1 zone f.2 refl)
+
+  pub there_same : (f : Bool) (z w : Records) (r : Resource) → SameZone z w → adds_nothing_new f z r ≡ adds_nothing_new f w r
+  there_same f z w r h =
+      let another : Resource → Bool = λ q. in_rrset r q && not (same_record r q) in
+      ap (λ t. has_ttl r.ttl t && (not (replaces_rrset r && list_any another z) && not (f && has_other_ttl z r))) (h r)
+      ∙ ap (λ x. has_ttl r.ttl (ttl_at w r) && (not (replaces_rrset r && x) && not (f && has_other_ttl z r)))
+      (any_same another (both_respect (in_rrset r) (λ q. not (same_record r q)) (rrset_respects r) (not_respects (same_record r) (same_respects r))) z w h)
+      ∙ ap (λ x. has_ttl r.ttl (ttl_at w r) && (not (replaces_rrset r && list_any another w) && not (f && x))) (other_ttl_same z w r h)
+
+  pub comes_same : (f : Bool) (z w : Records) (r : Resource) → SameZone z w → is_added f z r ≡ is_added f w r
+  comes_same f z w r h =
+      ap (λ x. (r.dns_class == 1) && (not x && not (adds_nothing_new f z r))) (ignored_same z w r h) ∙ ap (λ x. (r.dns_class == 1) && (not (is_ignored w r) && not x)) (there_same f z w r h)
+
+  pub spared_same : (f : Bool) (o : DomainName) (z w : Records) (r : Resource) → SameZone z w → is_spared f o z r ≡ is_spared f o w r
+  spared_same f o z w r h =
+      ap (λ x. (not f || is_at o r) && (is_type 6 r || (is_type 2 r && not x)))
       (any_same (λ q. in_rrset r q && not (same_record (in_class r) q)) (both_respect (in_rrset r) (λ q. not (same_record (in_class r) q)) (rrset_respects r) (not_respects (same_record (in_class r)) (same_respects (in_class r)))) z w h)
 
   cleared_of : Bool → Bool → Bool → Bool → Bool → Bool → Bool
@@ -213,8 +281,41 @@ module _ (identity : Identity) where
 
   -- ---- a turn, and several
 
-  turn_when_same : (o : DomainName) (z w : Records) (r : Resource) (a b : Bool) → SameZone z w → SameZone (after_record_when o z r a b) (after_record_when o w r a b)
-  turn_when_same o z w r a b h q =
+  -- a TTL that is given to what is there
+  abbrev given_ttl : ℕ → Option ℕ → Option ℕ
+  given_ttl t None = None
+  given_ttl t (Some u) = Some t
+
+  one_seen : (q x : Resource) (t : ℕ) (more : Option ℕ) (b : Bool)
+      → cond (same_record q (cond b (record x { ttl = t }) x)) (Some (cond b (record x { ttl = t }) x).ttl) more ≡ cond (same_record q x) (Some (cond b t x.ttl)) more
+  one_seen q x t more true = refl
+  one_seen q x t more false = refl
+
+  one_step : (t u : ℕ) (more rest : Option ℕ) (m bx bq : Bool) → (m ≡ true → bx ≡ bq) → more ≡ cond bq (given_ttl t rest) rest
+      → cond m (Some (cond bx t u)) more ≡ cond bq (given_ttl t (cond m (Some u) rest)) (cond m (Some u) rest)
+  one_step t u more rest true true true h e = refl
+  one_step t u more rest true false false h e = refl
+  one_step t u more rest true true false h e = absurd (let f : true ≡ false = h refl in cc)
+  one_step t u more rest true false true h e = absurd (let f : false ≡ true = h refl in cc)
+  one_step t u more rest false bx bq h e = e
+
+  none_given : (t : ℕ) (b : Bool) → ◌≡◌ {A = Option ℕ} None (cond b (given_ttl t None) None)
+  none_given t true = refl
+  none_given t false = refl
+
+  pub ttl_one : (r : Resource) (z : Records) (q : Resource) → ttl_at (one_ttl r z) q ≡ cond (in_rrset r q) (given_ttl r.ttl (ttl_at z q)) (ttl_at z q)
+  ttl_one r [] q = none_given r.ttl (in_rrset r q)
+  ttl_one r (x ∷ z) q =
+      one_seen q x r.ttl (ttl_at (one_ttl r z) q) (in_rrset r x)
+      ∙ one_step r.ttl x.ttl (ttl_at (one_ttl r z) q) (ttl_at z q) (same_record q x) (in_rrset r x) (in_rrset r q) (λ e. rrset_respects r q x e) (ttl_one r z q)
+
+  settled_same : (c : Bool) (r : Resource) (z w : Records) → SameZone z w → SameZone (cond c (one_ttl r z) z) (cond c (one_ttl r w) w)
+  settled_same true r z w h q = ttl_one r z q ∙ ap (λ x. cond (in_rrset r q) (given_ttl r.ttl x) x) (h q) ∙ sym (ttl_one r w q)
+  settled_same false r z w h q = h q
+
+  kept_same : (o : DomainName) (z w : Records) (r : Resource) (a b : Bool) → SameZone z w
+      → SameZone (filter (λ q. not (is_deleted_when o r a b q)) z ++ cond a (r ∷ []) []) (filter (λ q. not (is_deleted_when o r a b q)) w ++ cond a (r ∷ []) [])
+  kept_same o z w r a b h q =
       let p : Resource → Bool = λ q. not (is_deleted_when o r a b q) in
       let s : Respects p = not_respects (is_deleted_when o r a b) (goes_respects o r a b) in
       let last : Records = cond a (r ∷ []) [] in
@@ -222,13 +323,19 @@ module _ (identity : Identity) where
       ∙ ap (λ x. option_or x (ttl_at last q)) (ttl_filter p s z q ∙ ap (λ x. cond (p q) x None) (h q) ∙ sym (ttl_filter p s w q))
       ∙ sym (ttl_append (filter p w) last q)
 
-  turn_same : (o : DomainName) (z w : Records) (r : Resource) → SameZone z w → SameZone (after_record o z r) (after_record o w r)
-  unfolding after_record
-  turn_same o z w r h q =
-      turn_when_same o z w r (is_added z r) (is_spared z r) h q
-      ∙ ap (λ a. ttl_at (after_record_when o w r a (is_spared z r)) q) (comes_same z w r h)
-      ∙ ap (λ b. ttl_at (after_record_when o w r (is_added w r) b) q) (spared_same z w r h)
+  turn_when_same : (f : Bool) (o : DomainName) (z w : Records) (r : Resource) (a b : Bool) → SameZone z w → SameZone (after_record_when f o z r a b) (after_record_when f o w r a b)
+  turn_when_same f o z w r a b h = settled_same (f && a) r _ _ (kept_same o z w r a b h)
 
-  pub fold_same : (o : DomainName) (rs z w : Records) → SameZone z w → SameZone (after_updates o z rs) (after_updates o w rs)
-  fold_same o [] z w h = h
-  fold_same o (r ∷ rs) z w h = fold_same o rs (after_record o z r) (after_record o w r) (turn_same o z w r h)
+  counted_same : (f : Bool) (o : DomainName) (z w : Records) (r : Resource) → SameZone z w → SameZone (after_counted f o z r) (after_counted f o w r)
+  counted_same f o z w r h q =
+      turn_when_same f o z w r (is_added f z r) (is_spared f o z r) h q
+      ∙ ap (λ a. ttl_at (after_record_when f o w r a (is_spared f o z r)) q) (comes_same f z w r h)
+      ∙ ap (λ b. ttl_at (after_record_when f o w r (is_added f w r) b) q) (spared_same f o z w r h)
+
+  turn_same : (f : Bool) (o : DomainName) (z w : Records) (r : Resource) → SameZone z w → SameZone (after_record f o z r) (after_record f o w r)
+  unfolding after_record
+  turn_same f o z w r h = counted_same f o z w (counted f r) h
+
+  pub fold_same : (f : Bool) (o : DomainName) (rs z w : Records) → SameZone z w → SameZone (after_updates f o z rs) (after_updates f o w rs)
+  fold_same f o [] z w h = h
+  fold_same f o (r ∷ rs) z w h = fold_same f o rs (after_record f o z r) (after_record f o w r) (turn_same f o z w r h)

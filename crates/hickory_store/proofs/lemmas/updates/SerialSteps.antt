@@ -8,7 +8,7 @@ use Rattle.wire_names.specs.rr.domain.DomainName.{DomainName}
 use Rattle.wire_messages.specs.declared.rr.rdata.RData.{RData}
 use Rattle.wire_messages.specs.declared.rr.rdata.RData.TheVariants as rdata
 use Rattle.hickory_base.specs.zone_store.ZoneRecords.{is_at}
-use Rattle.hickory_store.specs.updates.Changes.{any_change, changes, is_added, after_updates, is_deleted_when, is_spared, after_record}
+use Rattle.hickory_store.specs.updates.Changes.{after_counted, after_record, after_updates, any_change, changes, counted, counted_changes, is_added, is_deleted_when, is_spared, one_ttl}
 use Rattle.hickory_store.specs.updates.Serials.{next_serial}
 use Rattle.hickory_store.specs.updates.UpdateAnswers.{Outcome, incremented, is_apex_soa, next_data, with_next_serial}
 use Rattle.hickory_store.specs.updates.UpdateLaws.{SerialSteps, SoaStays, apex_serials, how_many, serials_in}
@@ -33,17 +33,26 @@ all_stay : (p : Resource → Bool) (z : Records) → list_any p z ≡ false → 
 all_stay p [] h = refl
 all_stay p (q ∷ z) h = keep_step (p q) q (filter (λ q. not (p q)) z) z (or_first (p q) _ h) (all_stay p z (or_rest (p q) _ h))
 
-turn_stays : (o : DomainName) (z : Records) (r : Resource) → changes o z r ≡ false → after_record o z r ≡ z
-unfolding after_record changes
-turn_stays o z r h =
-    let going = is_deleted_when o r (is_added z r) (is_spared z r) in
-    ap (λ v. filter (λ q. not (going q)) z ++ cond v (r ∷ []) []) (or_rest (list_any going z) _ h)
-    ∙ append-nil (filter (λ q. not (going q)) z) ∙ all_stay going z (or_first (list_any going z) _ h)
+unsettled : (f : Bool) (z w : Records) → cond (f && false) w z ≡ z
+unsettled true z w = refl
+unsettled false z w = refl
 
-pub fold_stays : (o : DomainName) (rs z : Records) → any_change o z rs ≡ false → after_updates o z rs ≡ z
-fold_stays o [] z h = refl
-fold_stays o (r ∷ rs) z h =
-    fold_stays o rs (after_record o z r) (or_rest (changes o z r) _ h) ∙ turn_stays o z r (or_first (changes o z r) _ h)
+counted_stays : (f : Bool) (o : DomainName) (z : Records) (r : Resource) → counted_changes f o z r ≡ false → after_counted f o z r ≡ z
+counted_stays f o z r h =
+    let going = is_deleted_when o r (is_added f z r) (is_spared f o z r) in
+    let kept : Records = filter (λ q. not (going q)) z in
+    ap (λ v. cond (f && v) (one_ttl r (kept ++ cond v (r ∷ []) [])) (kept ++ cond v (r ∷ []) [])) (or_rest (list_any going z) _ h)
+    ∙ unsettled f (kept ++ []) (one_ttl r (kept ++ []))
+    ∙ append-nil kept ∙ all_stay going z (or_first (list_any going z) _ h)
+
+turn_stays : (f : Bool) (o : DomainName) (z : Records) (r : Resource) → changes f o z r ≡ false → after_record f o z r ≡ z
+unfolding after_record changes
+turn_stays f o z r h = counted_stays f o z (counted f r) h
+
+pub fold_stays : (f : Bool) (o : DomainName) (rs z : Records) → any_change f o z rs ≡ false → after_updates f o z rs ≡ z
+fold_stays f o [] z h = refl
+fold_stays f o (r ∷ rs) z h =
+    fold_stays f o rs (after_record f o z r) (or_rest (changes f o z r) _ h) ∙ turn_stays f o z r (or_first (changes f o z r) _ h)
 
 -- ---- a change
 
@@ -102,16 +111,16 @@ found_next : (o : DomainName) (z : Records) (b : Bool) → b ≡ true → ◌≡
 found_next o z true h = refl
 found_next o z false h = cc
 
-module _ (stays : SoaStays) (o : DomainName) (rs z : Records) (one : how_many (is_apex_soa o) z ≡ 1) where
-  steps_when : (b : Bool) → any_change o z rs ≡ b
-      → (after : Records) × (cond b (with_next_serial o (after_updates o z rs)) (Ok (z, false)) ≡ Ok (after, b))
-      × (apex_serials o after ≡ map (λ s. cond b (next_serial s) s) (apex_serials o (after_updates o z rs)))
+module _ (stays : SoaStays) (f : Bool) (o : DomainName) (rs z : Records) (one : how_many (is_apex_soa o) z ≡ 1) where
+  steps_when : (b : Bool) → any_change f o z rs ≡ b
+      → (after : Records) × (cond b (with_next_serial o (after_updates f o z rs)) (Ok (z, false)) ≡ Ok (after, b))
+      × (apex_serials o after ≡ map (λ s. cond b (next_serial s) s) (apex_serials o (after_updates f o z rs)))
   steps_when true e = (
-    map (incremented o) (after_updates o z rs),
-    found_next o (after_updates o z rs) _ (some_of_one (is_apex_soa o) (after_updates o z rs) (stays o rs z one)),
-    all_next o (after_updates o z rs),
+    map (incremented o) (after_updates f o z rs),
+    found_next o (after_updates f o z rs) _ (some_of_one (is_apex_soa o) (after_updates f o z rs) (stays f o rs z one)),
+    all_next o (after_updates f o z rs),
   )
-  steps_when false e = (z, refl, same_map (apex_serials o z) ∙ ap (λ v. map (λ s. cond false (next_serial s) s) (apex_serials o v)) (sym (fold_stays o rs z e)))
+  steps_when false e = (z, refl, same_map (apex_serials o z) ∙ ap (λ v. map (λ s. cond false (next_serial s) s) (apex_serials o v)) (sym (fold_stays f o rs z e)))
 
 pub serial_steps : SoaStays → SerialSteps
-serial_steps stays o rs z one = steps_when stays o rs z one (any_change o z rs) refl
+serial_steps stays f o rs z one = steps_when stays f o rs z one (any_change f o z rs) refl

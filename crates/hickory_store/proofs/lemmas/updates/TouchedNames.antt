@@ -50,20 +50,20 @@ lower_own r = eq_from_same (lower_name r.name) r.name (lower_same r.name)
 other_name : (r : Resource) (n : DomainName) → name_eq (lower_name r.name) n ≡ false → is_at n r ≡ false
 other_name r n e = names.symm n r.name ∙ sym (names.congr (lower_name r.name) r.name n (lower_own r)) ∙ e
 
-module _ (origin : DomainName) (zone : Records) (r : Resource) (old mid new : ByName) (before took put : Records)
+module _ (f : Bool) (origin : DomainName) (zone : Records) (r : Resource) (old mid new : ByName) (before took put : Records)
     (takes : PutsName (lower_name r.name) None old mid) (puts : PutsName (lower_name r.name) (Some put) mid new)
     (taken : took ≡ records_now zone old (lower_name r.name)) (now : AreNow zone old before) where
   took_is : took ≡ of_name (lower_name r.name) before
   took_is = taken ∙ now (lower_name r.name)
 
-  pub turned : put ≡ after_record origin took r → AreNow zone new (after_record origin before r)
+  pub turned : put ≡ after_record f origin took r → AreNow zone new (after_record f origin before r)
   turned e =
-      replaced zone (lower_name r.name) old new put before (after_record origin before r) (put_over (lower_name r.name) put old mid new takes puts) now
-      (e ∙ ap (λ zs. after_record origin zs r) took_is ∙ sym (own_turn (lower_name r.name) r (lower_own r) origin before))
-      (λ n apart. other_turn n r (other_name r n apart) origin before)
+      replaced zone (lower_name r.name) old new put before (after_record f origin before r) (put_over (lower_name r.name) put old mid new takes puts) now
+      (e ∙ ap (λ zs. after_record f origin zs r) took_is ∙ sym (own_turn f (lower_name r.name) r (lower_own r) origin before))
+      (λ n apart. other_turn f n r (other_name r n apart) origin before)
 
-  pub told : (changed : Bool) → changed ≡ changes origin took r → changed ≡ changes origin before r
-  told changed e = e ∙ ap (λ zs. changes origin zs r) took_is ∙ own_changes (lower_name r.name) r (lower_own r) origin before
+  pub told : (changed : Bool) → changed ≡ changes f origin took r → changed ≡ changes f origin before r
+  told changed e = e ∙ ap (λ zs. changes f origin zs r) took_is ∙ own_changes f (lower_name r.name) r (lower_own r) origin before
 
 -- ---- the next serial
 
@@ -111,11 +111,11 @@ module _ (o : DomainName) where
 
 -- ---- what an update leaves
 
-module _ (o : DomainName) (z rs : Records) where
-  pub without_serial : (increments : Bool) → increments ≡ false → applied o z rs increments ≡ Ok (after_updates o z rs, increments)
+module _ (f : Bool) (o : DomainName) (z rs : Records) where
+  pub without_serial : (increments : Bool) → increments ≡ false → applied f o z rs increments ≡ Ok (after_updates f o z rs, increments)
   without_serial true e = absurd (cc)
   without_serial false e = refl
 
-  pub with_change : (increments : Bool) → increments ≡ true → any_change o z rs ≡ true → applied o z rs increments ≡ with_next_serial o (after_updates o z rs)
-  with_change true e f = ap (λ b. cond b (with_next_serial o (after_updates o z rs)) (Ok (z, false))) f
-  with_change false e f = absurd (cc)
+  pub with_change : (increments : Bool) → increments ≡ true → any_change f o z rs ≡ true → applied f o z rs increments ≡ with_next_serial o (after_updates f o z rs)
+  with_change true e h = ap (λ b. cond b (with_next_serial o (after_updates f o z rs)) (Ok (z, false))) h
+  with_change false e h = absurd (cc)

@@ -19,13 +19,14 @@ use Rattle.wire_names.proofs.lemmas.rr.domain.SameNames.{eq_from_same, same_orde
 use Rattle.hickory_base.specs.zone_store.ZoneRecords.{is_at}
 use Rattle.hickory_base.specs.zone_store.ZoneSets.{AreDistinct, IsSoaData, IsWellTyped, IsZone, zone_records}
 use Rattle.wire_messages.specs.declared.rr.rr_key.RrKey.{RrKey}
-use Rattle.hickory_store.specs.updates.Changes.{is_added, after_updates, is_deleted_when, in_rrset, is_spared, replaces_rrset, after_record}
+use Rattle.hickory_store.specs.updates.Changes.{after_counted, after_record, after_updates, counted, in_rrset, is_added, is_deleted_when, is_spared, one_ttl, replaces_rrset}
 use Rattle.hickory_store.specs.updates.Identity.{is_in_zone, same_record}
 use Rattle.hickory_store.specs.updates.Prescan.{has_zone_data, is_addition, is_query_type, is_well_formed, prescan_refusal, update_refusal}
 use Rattle.hickory_store.specs.updates.Refusals.{unless}
 use Rattle.hickory_store.specs.updates.Serials.{next_serial}
 use Rattle.hickory_store.specs.updates.UpdateAnswers.{Outcome, applied, incremented, is_apex_soa, next_data, with_next_serial}
 use Rattle.hickory_store.specs.representation.ZoneSets.{HasSerial}
+use Rattle.hickory_store.proofs.lemmas.updates.OneTtl.{counted_so, given}
 use Rattle.hickory_store.proofs.lemmas.updates.RecordByRecord.{itself, type-lower}
 use Rattle.hickory_store.proofs.lemmas.file.SetsOfRecords.{all_kept, append_none, distinct_kept, passing}
 
@@ -60,6 +61,39 @@ first_true : (a b : Bool) → (a && b) ≡ true → a ≡ true
 first_true true b h = refl
 first_true false b h = h
 
+-- ---- one TTL
+
+given_apart : (t u : ℕ) (a b : Record RData) (x y : Bool) → SameRecord (given x t a) (given y u b) → SameRecord a b
+given_apart t u a b true true s = record { name = s.name; class = s.class; rdata = s.rdata }
+given_apart t u a b true false s = record { name = s.name; class = s.class; rdata = s.rdata }
+given_apart t u a b false true s = record { name = s.name; class = s.class; rdata = s.rdata }
+given_apart t u a b false false s = s
+
+given_typed : (t : ℕ) (a : Record RData) (x : Bool) → IsWellTyped a → IsWellTyped (given x t a)
+given_typed t a true h = h
+given_typed t a false h = h
+
+module _ (r : Record RData) where
+  one_apart : (a : Record RData) (zs : Records) → AllByRecursion (λ q. ¬ (SameRecord a q)) zs → AllByRecursion (λ q. ¬ (SameRecord (given (in_rrset r a) r.ttl a) q)) (one_ttl r zs)
+  one_apart a [] n = tt
+  one_apart a (q ∷ zs) n = (λ s. n.0 (given_apart r.ttl r.ttl a q (in_rrset r a) (in_rrset r q) s), one_apart a zs n.1)
+
+  one_distinct : (zs : Records) → AreDistinct zs → AreDistinct (one_ttl r zs)
+  one_distinct [] h = tt
+  one_distinct (a ∷ zs) h = (one_apart a zs h.0, one_distinct zs h.1)
+
+  one_typed : (zs : Records) → AllByRecursion IsWellTyped zs → AllByRecursion IsWellTyped (one_ttl r zs)
+  one_typed [] h = tt
+  one_typed (q ∷ zs) h = (given_typed r.ttl q (in_rrset r q) h.0, one_typed zs h.1)
+
+settled_distinct : (c : Bool) (r : Record RData) (zs : Records) → AreDistinct zs → AreDistinct (cond c (one_ttl r zs) zs)
+settled_distinct true r zs h = one_distinct r zs h
+settled_distinct false r zs h = h
+
+settled_typed : (c : Bool) (r : Record RData) (zs : Records) → AllByRecursion IsWellTyped zs → AllByRecursion IsWellTyped (cond c (one_ttl r zs) zs)
+settled_typed true r zs h = one_typed r zs h
+settled_typed false r zs h = h
+
 -- ---- one turn
 
 goes_as_same : (k s i m k2 cl b d : Bool) → k ≡ true → i ≡ true → m ≡ true → not (cond k (true && cond s i m) (cond k2 cl (not b && d))) ≡ true → ⊥
@@ -88,21 +122,29 @@ module _ (identity : (a b : Record RData) → IsTrue (same_record a b) ↔ SameR
     typed_when true b k h = all_behind IsWellTyped _ r (all_kept IsWellTyped (λ q. not (is_deleted_when o r true b q)) z h) (k refl)
     typed_when false b k h = subst (AllByRecursion IsWellTyped) (sym (append_none _)) (all_kept IsWellTyped (λ q. not (is_deleted_when o r false b q)) z h)
 
-    distinct_turn : AreDistinct z → AreDistinct (after_record o z r)
+  module _ (f : Bool) where
+    distinct_counted : (z : Records) (r : Record RData) → AreDistinct z → AreDistinct (after_counted f o z r)
+    distinct_counted z r h = settled_distinct (f && is_added f z r) r _ (distinct_when z r (is_added f z r) (is_spared f o z r) (first_true (r.dns_class == 1) _) h)
+
+    typed_counted : (z : Records) (r : Record RData) → ((r.dns_class == 1) ≡ true → IsWellTyped r) → AllByRecursion IsWellTyped z → AllByRecursion IsWellTyped (after_counted f o z r)
+    typed_counted z r k h =
+        settled_typed (f && is_added f z r) r _ (typed_when z r (is_added f z r) (is_spared f o z r) (λ e. k (first_true (r.dns_class == 1) _ e)) h)
+
+    distinct_turn : (z : Records) (r : Record RData) → AreDistinct z → AreDistinct (after_record f o z r)
     unfolding after_record
-    distinct_turn h = distinct_when (is_added z r) (is_spared z r) (first_true (r.dns_class == 1) _) h
+    distinct_turn z r h = distinct_counted z (counted f r) h
 
-    typed_turn : ((r.dns_class == 1) ≡ true → IsWellTyped r) → AllByRecursion IsWellTyped z → AllByRecursion IsWellTyped (after_record o z r)
+    typed_turn : (z : Records) (r : Record RData) → ((r.dns_class == 1) ≡ true → IsWellTyped r) → AllByRecursion IsWellTyped z → AllByRecursion IsWellTyped (after_record f o z r)
     unfolding after_record
-    typed_turn k h = typed_when (is_added z r) (is_spared z r) (λ e. k (first_true (r.dns_class == 1) _ e)) h
+    typed_turn z r k h = typed_counted z (counted f r) (counted_so (λ q. (q.dns_class == 1) ≡ true → IsWellTyped q) f r k k) h
 
-  pub distinct_fold : (rs z : Records) → AreDistinct z → AreDistinct (after_updates o z rs)
-  distinct_fold [] z h = h
-  distinct_fold (r ∷ rs) z h = distinct_fold rs (after_record o z r) (distinct_turn z r h)
+    pub distinct_fold : (rs z : Records) → AreDistinct z → AreDistinct (after_updates f o z rs)
+    distinct_fold [] z h = h
+    distinct_fold (r ∷ rs) z h = distinct_fold rs (after_record f o z r) (distinct_turn z r h)
 
-  pub typed_fold : (rs z : Records) → AllByRecursion (λ r. (r.dns_class == 1) ≡ true → IsWellTyped r) rs → AllByRecursion IsWellTyped z → AllByRecursion IsWellTyped (after_updates o z rs)
-  typed_fold [] z k h = h
-  typed_fold (r ∷ rs) z k h = typed_fold rs (after_record o z r) k.1 (typed_turn z r k.0 h)
+    pub typed_fold : (rs z : Records) → AllByRecursion (λ r. (r.dns_class == 1) ≡ true → IsWellTyped r) rs → AllByRecursion IsWellTyped z → AllByRecursion IsWellTyped (after_updates f o z rs)
+    typed_fold [] z k h = h
+    typed_fold (r ∷ rs) z k h = typed_fold rs (after_record f o z r) k.1 (typed_turn z r k.0 h)
 
 -- ---- the next serial
 
@@ -202,29 +244,29 @@ module _ (o : DomainName) where
 ok_is : {X E : Type 0} (x y : X) → ◌≡◌ {A = Result X E} (Ok x) (Ok y) → x ≡ y
 ok_is x y e = cc
 
-module _ (identity : (a b : Record RData) → IsTrue (same_record a b) ↔ SameRecord a b) (o : DomainName) (rs z v : Records)
+module _ (identity : (a b : Record RData) → IsTrue (same_record a b) ↔ SameRecord a b) (f : Bool) (o : DomainName) (rs z v : Records)
     (updates : AllByRecursion (λ r. (r.dns_class == 1) ≡ true → IsWellTyped r) rs) (distinct : AreDistinct z) (typed : AllByRecursion IsWellTyped z) where
-  folded_distinct : AreDistinct (after_updates o z rs)
-  folded_distinct = distinct_fold identity o rs z distinct
+  folded_distinct : AreDistinct (after_updates f o z rs)
+  folded_distinct = distinct_fold identity o f rs z distinct
 
-  folded_typed : AllByRecursion IsWellTyped (after_updates o z rs)
-  folded_typed = typed_fold identity o rs z updates typed
+  folded_typed : AllByRecursion IsWellTyped (after_updates f o z rs)
+  folded_typed = typed_fold identity o f rs z updates typed
 
-  soa_case : (b changed : Bool) → ◌≡◌ {A = Outcome} (cond b (Ok (map (incremented o) (after_updates o z rs), true)) (Err 2)) (Ok (v, changed)) → AreDistinct v × AllByRecursion IsWellTyped v
+  soa_case : (b changed : Bool) → ◌≡◌ {A = Outcome} (cond b (Ok (map (incremented o) (after_updates f o z rs), true)) (Err 2)) (Ok (v, changed)) → AreDistinct v × AllByRecursion IsWellTyped v
   soa_case true changed e =
-      let f : map (incremented o) (after_updates o z rs) ≡ v = ap (λ (p : Records × Bool). p.0) (ok_is _ _ e) in
-      (subst AreDistinct f (distinct_all o (after_updates o z rs) folded_typed folded_distinct), subst (AllByRecursion IsWellTyped) f (typed_all o (after_updates o z rs) folded_typed))
+      let g : map (incremented o) (after_updates f o z rs) ≡ v = ap (λ (p : Records × Bool). p.0) (ok_is _ _ e) in
+      (subst AreDistinct g (distinct_all o (after_updates f o z rs) folded_typed folded_distinct), subst (AllByRecursion IsWellTyped) g (typed_all o (after_updates f o z rs) folded_typed))
   soa_case false changed e = absurd (cc)
 
-  change_case : (b changed : Bool) → ◌≡◌ {A = Outcome} (cond b (with_next_serial o (after_updates o z rs)) (Ok (z, false))) (Ok (v, changed)) → AreDistinct v × AllByRecursion IsWellTyped v
-  change_case true changed e = soa_case (list_any (is_apex_soa o) (after_updates o z rs)) changed e
+  change_case : (b changed : Bool) → ◌≡◌ {A = Outcome} (cond b (with_next_serial o (after_updates f o z rs)) (Ok (z, false))) (Ok (v, changed)) → AreDistinct v × AllByRecursion IsWellTyped v
+  change_case true changed e = soa_case (list_any (is_apex_soa o) (after_updates f o z rs)) changed e
   change_case false changed e =
-      let f : z ≡ v = ap (λ (p : Records × Bool). p.0) (ok_is _ _ e) in (subst AreDistinct f distinct, subst (AllByRecursion IsWellTyped) f typed)
+      let g : z ≡ v = ap (λ (p : Records × Bool). p.0) (ok_is _ _ e) in (subst AreDistinct g distinct, subst (AllByRecursion IsWellTyped) g typed)
 
-  pub applied_good : (increments changed : Bool) → applied o z rs increments ≡ Ok (v, changed) → AreDistinct v × AllByRecursion IsWellTyped v
+  pub applied_good : (increments changed : Bool) → applied f o z rs increments ≡ Ok (v, changed) → AreDistinct v × AllByRecursion IsWellTyped v
   applied_good true changed e = change_case _ changed e
   applied_good false changed e =
-      let f : after_updates o z rs ≡ v = ap (λ (p : Records × Bool). p.0) (ok_is _ _ e) in (subst AreDistinct f folded_distinct, subst (AllByRecursion IsWellTyped) f folded_typed)
+      let g : after_updates f o z rs ≡ v = ap (λ (p : Records × Bool). p.0) (ok_is _ _ e) in (subst AreDistinct g folded_distinct, subst (AllByRecursion IsWellTyped) g folded_typed)
 
 -- ---- records that are accepted
 

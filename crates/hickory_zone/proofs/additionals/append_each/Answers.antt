@@ -4,14 +4,14 @@ use Rattle.hickory_zone.specs.Zones.{Zone}
 use Rattle.hickory_zone.proofs.lemmas.replies.Hosts.{ended, none_left, one_more}
 use Rattle.hickory_zone.proofs.additionals.append_each.Goals as goal
 
-pub loop-host-preserved : goal.loop-host-preserved
-loop-host-preserved c =
+pub loop-q-preserved : goal.loop-q-preserved
+loop-q-preserved c =
     let zone : Zone = record { origin = c.args.origin.now; sets = sets_of c.args.sets.now } in
-    one_more c.args.source zone c.args.answers.now c.args.all.now.items c.args.hosts.now c.loop-host.host-index c.host-item.result c.loop-host.all.items c.append_addresses.new.all.items c.loop-host-test.true c.host-item.is
-    c.loop-host.invariant c.in_ok-append_addresses.ensures
+    one_more c.args.source zone c.args.answers.now c.args.all.now.items c.args.naming.now c.loop-q.q-index c.q-item.result c.loop-q.all.items c.append_host.new.all.items c.loop-q-test.true c.q-item.is
+    c.loop-q.invariant c.in_ok-append_host.ensures
 
 pub returns : goal.returns
 returns c =
     let zone : Zone = record { origin = c.args.origin.now; sets = sets_of c.args.sets.now } in
-    ended c.args.source zone c.args.answers.now c.args.all.now.items c.args.hosts.now (drop c.loop-host.host-index c.args.hosts.now) c.loop-host.all.items
-    (none_left c.args.hosts.now c.loop-host.host-index c.loop-host-test.false) c.loop-host.invariant
+    ended c.args.source zone c.args.answers.now c.args.all.now.items c.args.naming.now (drop c.loop-q.q-index c.args.naming.now) c.loop-q.all.items
+    (none_left c.args.naming.now c.loop-q.q-index c.loop-q-test.false) c.loop-q.invariant

@@ -2,9 +2,8 @@ use Rattle.std.proofs.Common.{◌≡◌, false, true, sym, ap, subst, ◌∙◌}
 use Rattle.std.proofs.lemmas.Bool.{false≢true}
 use Rattle.wire_names.specs.rr.domain.NameOrder.{lower_name}
 use Rattle.hickory_zone.proofs.lemmas.replies.Handling.{into_zone, out_of_zone}
-use Rattle.hickory_zone.proofs.lemmas.replies.Hosts.{on_ok}
 use Rattle.hickory_zone.specs.Chains.{IsIn}
-use Rattle.hickory_zone.specs.Replies.{IsReplied, RepliesTo, is_class, refuses, replies, as_zone}
+use Rattle.hickory_zone.specs.Replies.{IsReplied, RepliesTo, in_class, is_class, refuses, replies, as_zone}
 use Rattle.hickory_zone.proofs.answers.answer.Goals as goal
 use Rattle.hickory_zone.proofs.answers.answer.Goals.{then-not-is_class-via-then-not-is_class, then-not-is_class-via-else-not-is_class+then-not-is_in}
 
@@ -34,9 +33,11 @@ returns c =
     let e : c.is_in.result ≡ true = c.if-not-is_in.false in
     let f : c.is_class.result ≡ true = c.if-not-is_class.false in
     let reply = c.put_within.new.reply in
-    on_ok c.put_within.result _ _ c.put_within.ensures
-    (λ x. replies (record {
+    let own : IsReplied (as_zone zone) c.args.query.now.name c.args.query.now.query_type reply =
+    subst (λ t. IsReplied (as_zone zone) c.args.query.now.name t reply) c.query_type.ensures (subst (λ q. IsReplied (as_zone zone) q.name c.query_type.result reply) c.original.ensures c.in_ok-put_within.ensures) in
+    subst (RepliesTo (as_zone zone) c.args.query.now) (sym (c.put_class.ensures ∙ ap (λ class. in_class class reply) c.query_class-2.ensures))
+    (replies (record {
       within = into_zone zone c.origin.result.now c.name.result.now (lower_name c.args.query.now.name) c.origin.ensures c.name.ensures ((c.is_in.ensures zone.sets).0 e);
       class = ap is_class (sym c.query_class.ensures) ∙ sym c.is_class.ensures ∙ f;
     })
-    (subst (λ t. IsReplied (as_zone zone) c.args.query.now.name t reply) c.query_type.ensures (subst (λ q. IsReplied (as_zone zone) q.name c.query_type.result reply) c.original.ensures x)))
+    own)

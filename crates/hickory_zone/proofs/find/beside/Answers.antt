@@ -1,7 +1,9 @@
-use Rattle.std.proofs.Common.{sym, subst}
+use Rattle.std.proofs.Common.{inl, inr, sym, subst}
 use Rattle.std.specs.Option.{option_copied}
 use Rattle.hickory_zone.proofs.lemmas.zones.Beside.{tells}
+use Rattle.hickory_zone.proofs.lemmas.zones.Owners.{above_same, turned}
 use Rattle.hickory_zone.specs.representation.KeysBeside.{IsLast}
+use Rattle.hickory_zone.specs.Zones.{ancestor}
 use Rattle.hickory_zone.proofs.find.beside.Goals as goal
 use Rattle.hickory_zone.proofs.find.beside.Goals.{in-Some, in-None}
 
@@ -13,4 +15,9 @@ returns c =
       | in-Some w ↦ subst (λ o. IsLast c.range.result (option_copied o)) (sym w.before-is) (w.in-Some.field-0-1.now, c.next_back.new.self, w.in-Some.ensures.steps)
       | in-None w ↦ subst (λ o. IsLast c.range.result (option_copied o)) (sym w.before-is) w.in-None.ensures.steps.0
     ] in
-    λ origin owners k. tells c.args.sets.now c.args.first.now r.least r.qualified origin owners b.range c.range.result b.whole b.of (c.range.ensures.between tt) (c.range.ensures.in_range tt) k _ _ b.least low
+    λ origin owners k.
+    let own = tells c.args.sets.now c.args.first.now r.least r.qualified origin owners b.range c.range.result b.whole b.of (c.range.ensures.between tt) (c.range.ensures.in_range tt) k _ _ b.least low in
+    let n = ancestor c.args.first.now.name k in (
+      λ x. elim (own.0 x) [ inl before ↦ inl before | inr behind ↦ inr (above_same n b.own (option_copied c.args.behind) (turned (option_copied c.args.behind) b.own b.same) behind) ],
+      λ a. own.1 (elim a [ inl before ↦ inl before | inr behind ↦ inr (above_same n (option_copied c.args.behind) b.own b.same behind) ]),
+    )

@@ -2,7 +2,7 @@ use Rattle.std.proofs.Common.{◌≡◌, ℕ, Option, true, sym, ap, subst, ◌�
 use Rattle.std.specs.Option.{option_copied}
 use Rattle.hickory_base.specs.zone_store.ZoneSets.{has_name, sets_of}
 use Rattle.hickory_zone.specs.Zones.{Records, rrset}
-use Rattle.hickory_zone.proofs.lemmas.zones.Nodes.{first_met, front_is, in_front, key_met, met_at_break, none_met, walks_on}
+use Rattle.hickory_zone.proofs.lemmas.zones.Nodes.{first_met, front_is, in_front, key_met, met_at_break, none_met, one_itself, walks_on}
 use Rattle.hickory_zone.specs.representation.KeysBeside.{IsFirst}
 use Rattle.hickory_zone.proofs.find.node_at.Goals as goal
 use Rattle.hickory_zone.proofs.find.node_at.Goals.{in-None, in-Some+then-ne}
@@ -45,4 +45,4 @@ returns-clause-behind c =
           (sym (met_at_break (option_copied c.loop-key.behind) (option_copied w.first_key-behind.result) (w.in-Some.key.now, w.in-Some.set.now) c.next.new.self c.loop-key.key-iterator w.in-Some.ensures.steps w.first_key-behind.ensures))
           c.loop-key.invariant.behind)
     ] in
-    record { ordered = c.range-key-items.ensures.ordered; range = c.range-key-items.result; whole = c.range-key-items.ensures.between tt; of = c.range-key-items.ensures.in_range tt; least = subst (λ es. IsFirst es (option_copied c.match-next.behind)) c.into_iter-key-iterator.ensures.into_iter_gives range }
+    record { ordered = c.range-key-items.ensures.ordered; range = c.range-key-items.result; whole = c.range-key-items.ensures.between tt; of = c.range-key-items.ensures.in_range tt; own = option_copied c.match-next.behind; least = subst (λ es. IsFirst es (option_copied c.match-next.behind)) c.into_iter-key-iterator.ensures.into_iter_gives range; same = one_itself (option_copied c.match-next.behind) }

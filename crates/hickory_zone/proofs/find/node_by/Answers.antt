@@ -1,14 +1,40 @@
-use Rattle.std.proofs.Common.{subst}
+use Rattle.std.proofs.Common.{◌∙◌, sym, subst}
 use Rattle.std.specs.Prelude.{IfSome}
 use Rattle.std.specs.List.{Contains}
+use Rattle.std.specs.List.Sorted.{IsStrictlySortedBy}
 use Rattle.std.specs.Option.{option_copied}
+use Rattle.wire_messages.specs.rr.RrKeys.{key_cmp}
+use Rattle.hickory_base.proofs.lemmas.zone_store.ZoneByName.{keys-shared}
 use Rattle.hickory_base.specs.zone_store.ZoneSets.{sets_of}
 use Rattle.hickory_zone.specs.representation.Indexes.{IsIndexOf}
 use Rattle.hickory_zone.proofs.lemmas.zones.Indexed.{among_sets}
+use Rattle.hickory_zone.proofs.lemmas.zones.Kept.{still_has}
 use Rattle.hickory_zone.proofs.find.node_by.Goals as goal
+use Rattle.hickory_zone.proofs.find.node_by.Goals.{Then-node}
 
-pub returns-in-Some-clause-before : goal.returns-in-Some-clause-before
-returns-in-Some-clause-before c =
+-- the index is that of the zone
+of : (c : Then-node) → IsIndexOf c.args.origin.now (sets_of c.args.sets.now) c.in-Some.index.now
+of c = subst (λ o. IfSome (option_copied o) (IsIndexOf c.args.origin.now (sets_of c.args.sets.now))) c.in-Some.is c.requires.index
+
+pub returns-then-node-clause-wanted : goal.returns-then-node-clause-wanted
+returns-then-node-clause-wanted c = let now = c.if-node in
+    c.node_in-node.ensures.wanted ∙ sym (still_has c.in-Some.index.now c.args.first.now c.args.record_type c.requires.least (c.node_in-node.ensures.current c.if-node.true) c.args.origin.now c.args.sets.now (of c))
+
+pub returns-then-node-clause-alias : goal.returns-then-node-clause-alias
+returns-then-node-clause-alias c =
+    c.node_in-node.ensures.alias ∙ sym (still_has c.in-Some.index.now c.args.first.now 5 c.requires.least (c.node_in-node.ensures.current c.if-node.true) c.args.origin.now c.args.sets.now (of c))
+
+pub returns-then-node-clause-servers : goal.returns-then-node-clause-servers
+returns-then-node-clause-servers c =
+    c.node_in-node.ensures.servers ∙ sym (still_has c.in-Some.index.now c.args.first.now 2 c.requires.least (c.node_in-node.ensures.current c.if-node.true) c.args.origin.now c.args.sets.now (of c))
+
+pub returns-then-node-clause-behind : goal.returns-then-node-clause-behind
+returns-then-node-clause-behind c =
+    c.node_in-node.ensures.behind c.args.origin.now c.args.sets.now (of c) (subst (IsStrictlySortedBy key_cmp) (sym (keys-shared c.args.sets.now.entries)) c.len.ensures.ordered) c.if-node.true
+
+pub returns-then-node-clause-before : goal.returns-then-node-clause-before
+returns-then-node-clause-before c =
     λ e among.
-    let is : IsIndexOf c.args.origin.now (sets_of c.args.sets.now) c.in-Some.index.now = subst (λ o. IfSome (option_copied o) (IsIndexOf c.args.origin.now (sets_of c.args.sets.now))) c.in-Some.is c.requires.index in
-    subst (λ s. Contains s (e.0, e.1.value)) is.whole (let there = c.node_in.ensures.before e among in among_sets c.in-Some.index.now.entries there.0 e there.1 there.2)
+    let k = c.node_in-node.ensures.before e among in
+    let there = k.1 in
+    subst (λ s. Contains s (e.0, e.1.value)) ((of c).whole k.0) (among_sets c.in-Some.index.now.entries there.0 e there.1 there.2)

@@ -3,7 +3,8 @@ use Rattle.std.specs.Option.{option_copied}
 use Rattle.std.proofs.lemmas.List.{drop_all}
 use Rattle.hickory_base.specs.zone_store.ZoneSets.{has_name, shared_sets}
 use Rattle.hickory_zone.specs.Zones.{Records, rrset}
-use Rattle.hickory_zone.proofs.lemmas.zones.Indexed.{behind_in, in_turn}
+use Rattle.hickory_zone.proofs.lemmas.zones.Indexed.{in_turn}
+use Rattle.hickory_zone.proofs.lemmas.zones.Kept.{behind_in}
 use Rattle.hickory_zone.proofs.lemmas.zones.Nodes.{first_met, front_is, key_met, met_at_break, none_met, walks_on}
 use Rattle.hickory_zone.specs.representation.KeysBeside.{Entry, IsFirst}
 use Rattle.hickory_zone.proofs.find.node_in.Goals as goal
@@ -55,4 +56,5 @@ returns-clause-behind c =
           (in_turn range place w.loop-key-item.result w.loop-key-test.true w.loop-key-item.is) w.first_key-behind.ensures))
           before)
     ] in
-    behind_in c.args.index.now.entries range c.args.first.now (option_copied c.loop-key-test.behind) c.beside_key-sides.ensures.ordered c.beside_key-sides.ensures.is met
+    λ origin sets of ordered current.
+    behind_in c.args.index.now c.args.first.now range (option_copied c.loop-key-test.behind) c.requires.least c.beside_key-sides.ensures.ordered c.beside_key-sides.ensures.is met (c.beside_key-sides.ensures.unmarked current) origin sets of ordered

@@ -1,7 +1,8 @@
 -- What is replied of what was found alone.
-use Rattle.std.proofs.Common.{◌≡◌, ◌==◌, ℕ, Bool, true, false, not, ◌||◌, [], ◌∷◌, ◌++◌, List, Option, Some, None, refl, sym, ap, subst, ◌∙◌}
+use Rattle.std.proofs.Common.{◌≡◌, ◌==◌, ℕ, Bool, true, false, not, ◌||◌, [], ◌∷◌, Option, Some, None, refl, sym, ap, subst, ◌∙◌}
 use Rattle.std.specs.Prelude.{is_some}
 use Rattle.std.specs.List.{AllByRecursion}
+use Rattle.std.proofs.lemmas.List.{append-nil}
 use Rattle.wire_names.specs.rr.domain.DomainName.{DomainName}
 use Rattle.wire_messages.specs.Numbers.{code_no_error, code_nx_domain, type_mx, type_ns}
 use Rattle.wire_messages.specs.declared.rr.rdata.RData.{RData}
@@ -9,7 +10,7 @@ use Rattle.wire_messages.specs.declared.rr.rdata.RData.TheVariants as rdata
 use Rattle.wire_messages.specs.declared.rr.record.Record.{Record}
 use Rattle.hickory_base.specs.declared.zone_store.lookup.WholeReply.{WholeReply}
 use Rattle.hickory_zone.specs.declared.additionals.Source.TheVariants as source
-use Rattle.hickory_zone.specs.Additionals.{AreAdditionals, at_most_one, host_in, hosts_of, is_hostless, name_from, no_host, target_start}
+use Rattle.hickory_zone.specs.Additionals.{AreAdditionals, host_in, is_hostless, name_from, no_host, no_record, record_by, target_start}
 use Rattle.hickory_zone.specs.Endings as ended
 use Rattle.hickory_zone.specs.representation.ReplyAtOnce.{IsReplyAtOnce}
 use Rattle.hickory_zone.specs.Replies.{denial_soa, whole}
@@ -40,9 +41,10 @@ none_in (rdata.NULL bytes) h = refl
 none_in (rdata.Update0 t) h = refl
 none_in (rdata.Unknown t bytes) h = ap (λ start. name_from start bytes) (none_of (target_start t) (last_false (t == type_ns) (t == type_mx) (is_some (target_start t)) h))
 
-no_hosts : (rs : Records) → AllByRecursion (λ (q : Record RData). is_hostless q.rdata ≡ true) rs → hosts_of rs ≡ []
-no_hosts [] h = refl
-no_hosts (r ∷ rs) h = ap (λ o. at_most_one o ++ hosts_of rs) (none_in r.rdata h.0) ∙ no_hosts rs h.1
+nothing_added : (zone : Zone) (present rs : Records) → AllByRecursion (λ (q : Record RData). is_hostless q.rdata ≡ true) rs → AreAdditionals source.Answer zone present rs []
+nothing_added zone present [] h = no_record
+nothing_added zone present (r ∷ rs) h =
+    record_by {gained = []} {rest = []} (no_host (none_in r.rdata h.0)) (subst (λ (q : Records). AreAdditionals source.Answer zone q rs []) (sym (append-nil present)) (nothing_added zone present rs h.1))
 
 module _ (zone : Zone) (t : ℕ) (name : DomainName) (reply : WholeReply) where
   pub of_records : (rs : Records) → AllByRecursion (λ (q : Record RData). is_hostless q.rdata ≡ true) rs → reply ≡ whole code_no_error true rs [] [] → IsReplyAtOnce zone t name (answer rs) reply
@@ -50,7 +52,7 @@ module _ (zone : Zone) (t : ℕ) (name : DomainName) (reply : WholeReply) where
     chain = rs;
     ending = ended.answer;
     steps = refl;
-    ends_in = record { additionals = []; completed = subst (λ (ns : List DomainName). AreAdditionals source.Answer zone rs ns []) (sym (no_hosts rs h)) no_host; is = is };
+    ends_in = record { additionals = []; completed = nothing_added zone rs rs h; is = is };
   }
 
   pub of_no_data : (soa : Records) → soa ≡ denial_soa zone → reply ≡ whole code_no_error true [] soa [] → IsReplyAtOnce zone t name no_data reply

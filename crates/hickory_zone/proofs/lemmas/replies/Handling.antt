@@ -1,25 +1,19 @@
 -- From what was asked to what the zone gives for it.
-use Rattle.std.proofs.Common.{◌≡◌, ◌&&◌, ◌==◌, ℕ, Bool, true, false, [], Option, None, Some, Result, Ok, Err, sym, ap, subst}
+use Rattle.std.proofs.Common.{◌≡◌, ◌&&◌, ◌==◌, ℕ, Bool, true, false, [], Result, Ok, sym, ap, subst}
 use Rattle.std.specs.Bool.{MatchBool}
 use Rattle.std.specs.Ordering.{is_eq}
 use Rattle.wire_names.specs.rr.domain.DomainName.{DomainName}
 use Rattle.wire_names.specs.rr.domain.NameOrder.{lower_name}
-use Rattle.wire_messages.specs.Numbers.{code_not_auth}
-use Rattle.wire_messages.specs.declared.op.query.Query.{Query}
-use Rattle.wire_messages.specs.declared.rr.tsig.TSigResponseContext.{TSigResponseContext}
 use Rattle.hickory_base.proofs.lemmas.zone_store.ZoneByName.{itself}
-use Rattle.hickory_base.specs.requests.Requests.{ReceivedRequest}
 use Rattle.hickory_base.specs.declared.errors.LookupError.{LookupError}
-use Rattle.hickory_base.specs.declared.errors.LookupError.TheVariants.{ResponseCode}
 use Rattle.hickory_base.specs.declared.zone_store.lookup.AuthLookup.{AuthLookup}
 use Rattle.hickory_base.specs.declared.zone_store.lookup.AuthLookup.TheVariants as lookup
 use Rattle.hickory_base.specs.declared.zone_store.lookup.WholeReply.{WholeReply}
-use Rattle.hickory_base.specs.declared.zone_store.lookup.ZoneTransfer.{ZoneTransfer}
 use Rattle.hickory_base.specs.zone_store.ZoneAnswers.{MemoryZone}
 use Rattle.hickory_zone.proofs.lemmas.names.EnclosedBetween.{equal_of}
 use Rattle.hickory_zone.proofs.lemmas.replies.Follows.{enclosed_lower, lower_enclosed}
 use Rattle.hickory_zone.specs.Chains.{IsIn}
-use Rattle.hickory_zone.specs.Handled.{IsGiven, IsLookedUp, TransferredFor, is_soa, names_zone, question, records_of}
+use Rattle.hickory_zone.specs.Handled.{IsLookedUp, is_soa, question, records_of}
 use Rattle.hickory_zone.specs.Replies.{RepliesTo, denial_soa, as_zone}
 use Rattle.hickory_zone.specs.Zones.{Zone}
 
@@ -49,14 +43,3 @@ module _ (zone : Zone) (name : DomainName) (t : ℕ) (result : Result AuthLookup
 
 pub apex_soa : (zone : Zone) → is_soa zone zone.origin 6 ≡ true
 apex_soa zone = ap (λ order. is_eq order && (6 == 6)) (equal_of zone.origin zone.origin (itself zone.origin))
-
-module _ (zone : MemoryZone) (request : ReceivedRequest) (asked : Result Query LookupError) (query : Query) (answer : Option (Result ZoneTransfer LookupError × Option TSigResponseContext)) (is : asked ≡ Ok query) where
-  of_zone : (b : Bool) → names_zone (as_zone zone) query ≡ b → MatchBool b (IsGiven zone request query answer) (answer ≡ Some (Err (ResponseCode code_not_auth), None)) → TransferredFor zone request asked answer
-  of_zone b e h =
-      subst (λ (q : Result Query LookupError). TransferredFor zone request q answer) (sym is) (subst (λ (x : Bool). MatchBool x (IsGiven zone request query answer) (answer ≡ Some (Err (ResponseCode code_not_auth), None))) (sym e) h)
-
-  pub transferred : names_zone (as_zone zone) query ≡ true → IsGiven zone request query answer → TransferredFor zone request asked answer
-  transferred e h = of_zone true e h
-
-  pub not_transferred : names_zone (as_zone zone) query ≡ false → answer ≡ Some (Err (ResponseCode code_not_auth), None) → TransferredFor zone request asked answer
-  not_transferred e h = of_zone false e h

@@ -11,7 +11,7 @@ use Rattle.hickory_zone.proofs.lemmas.zones.CutsAbove.{undirected}
 use Rattle.hickory_zone.specs.declared.additionals.Source.TheVariants as source
 use Rattle.hickory_zone.specs.declared.cuts.Cut.{Cut}
 use Rattle.hickory_zone.specs.declared.features.Features.{Features}
-use Rattle.hickory_zone.specs.Additionals.{AreAdditionals, hosts_of}
+use Rattle.hickory_zone.specs.Additionals.{AreAdditionals}
 use Rattle.hickory_zone.specs.Endings as ended
 use Rattle.hickory_zone.specs.representation.Features.{AreFeatures}
 use Rattle.hickory_zone.specs.representation.FoundRecords.{CutAbove, EndsAbove}
@@ -29,8 +29,8 @@ referred zone name low t origin sets (Some cut) has reply o s n features above g
     let servers : cut.servers.now ≡ r.servers = let at : Some cut.servers.now ≡ Some r.servers = r.at in cc in
     let told : option_copied cut.glue ≡ Some r.glue = let all : Some (option_copied cut.glue) ≡ Some (Some r.glue) = r.told in cc in
     let of_zone : AreFeatures z has = subst (λ (y : Zone). AreFeatures y has) (sym (zone_is zone origin sets o s)) features in
-    let addresses : AreAdditionals source.Glue z [] (hosts_of r.servers) r.glue =
-    subst (λ (rs : Records). AreAdditionals source.Glue z [] (hosts_of rs) r.glue) servers (subst (λ (g : Option Records). IfSome g (AreAdditionals source.Glue z [] (hosts_of cut.servers.now))) told glue) in
+    let addresses : AreAdditionals source.Glue z [] r.servers r.glue =
+    subst (λ (rs : Records). AreAdditionals source.Glue z [] rs r.glue) servers (subst (λ (g : Option Records). IfSome g (AreAdditionals source.Glue z [] cut.servers.now)) told glue) in
     let ends : EndsAbove z low r.servers = subst (EndsAbove z low) servers above in
     let made : EndsIn z [] (ended.referral r.servers) reply = record { additionals = r.glue; completed = addresses; is = r.is } in
     finished_of zone name low t origin sets (referral r.servers) [] (ended.referral r.servers) reply o s n (undirected z low t r.servers (of_zone.dnames r.none) ends) refl made

@@ -1,5 +1,5 @@
 -- All records of a name, by the first key from the name on.
-use Rattle.std.proofs.Common.{◌≡◌, ◌∷◌, [], true, false, cond, Option, Some, None, ap, ◌∙◌}
+use Rattle.std.proofs.Common.{◌≡◌, ◌∷◌, [], true, false, cond, Option, Some, None, ap, refl, subst, sym, ◌∙◌}
 use Rattle.std.specs.List.{flat_map}
 use Rattle.std.specs.Ordering.{is_eq}
 use Rattle.std.proofs.lemmas.List.Elements.{filter_agree}
@@ -14,7 +14,7 @@ use Rattle.hickory_base.specs.zone_store.ZoneAnswers.{records_at}
 use Rattle.hickory_base.specs.zone_store.ZoneSets.{has_name, sets_of}
 use Rattle.hickory_zone.proofs.lemmas.names.EnclosedBetween.{same_of}
 use Rattle.hickory_zone.proofs.lemmas.zones.Nodes.{Entries}
-use Rattle.hickory_zone.specs.representation.KeysBeside.{SharedMap, StandsBehind}
+use Rattle.hickory_zone.specs.representation.KeysBeside.{HaveOneName, IsFirst, SharedMap, StandsBehind}
 use Rattle.hickory_zone.specs.Zones.{Records}
 
 -- the records of the entries of the name in front
@@ -26,12 +26,26 @@ module _ (sets : SharedMap) (first : RrKey) where
     all_there : (key : Option RrKey) (b : StandsBehind sets first key) → records_at first.name (sets_of sets) ≡ all_in_front first b.range
     all_there key b = records-shared (has_name first.name) sets.entries ∙ ap (flat_map (λ e. e.1.value)) (from_first_on first sets.entries b.range least b.ordered b.whole)
 
+    none_of : (own : Option RrKey) (b : StandsBehind sets first own) → IsFirst b.range None → records_at first.name (sets_of sets) ≡ []
+    none_of own b none = all_there own b ∙ ap (all_in_front first) none
+
+    none_at : (key : Option RrKey) (own : Option RrKey) → HaveOneName key own → key ≡ None → own ≡ None
+    none_at None None same is = refl
+    none_at None (Some f) same is = absurd same
+    none_at (Some k) own same is = absurd cc
+
     pub none_there : StandsBehind sets first None → records_at first.name (sets_of sets) ≡ []
-    none_there b = all_there None b ∙ ap (all_in_front first) b.least
+    none_there b = none_of None b (subst (IsFirst b.range) (none_at None b.own b.same refl) b.least)
+
+    other_of : (asked : RrKey) (own : Option RrKey) (range : Entries) → HaveOneName (Some asked) own → IsFirst range own → has_name first.name asked ≡ false → all_in_front first range ≡ []
+    other_of asked None range same met other = absurd same
+    other_of asked (Some f) range same met other =
+        ap (all_in_front first) met.2
+        ∙ ap (λ named. flat_map (λ e. e.1.value) (cond named ((f, met.0) ∷ while_of (of_name first) met.1) []))
+        (sym (ap is_eq (same_order first.name asked.name first.name f.name (itself first.name) same)) ∙ other)
 
     pub none_of_another : (key : RrKey) → StandsBehind sets first (Some key) → has_name first.name key ≡ false → records_at first.name (sets_of sets) ≡ []
-    none_of_another key b other =
-        all_there (Some key) b ∙ ap (all_in_front first) b.least.2 ∙ ap (λ named. flat_map (λ e. e.1.value) (cond named ((key, b.least.0) ∷ while_of (of_name first) b.least.1) [])) other
+    none_of_another key b other = all_there (Some key) b ∙ other_of key b.own b.range b.same b.least other
 
   -- names that are the same have the same records
   pub same_records : (key : RrKey) → has_name first.name key ≡ true → records_at first.name (sets_of sets) ≡ records_at key.name (sets_of sets)

@@ -6,7 +6,7 @@ use Rattle.std.specs.declared.vec.Vec.{Vec}
 use Rattle.wire_messages.specs.declared.rr.rdata.RData.{RData}
 use Rattle.wire_messages.specs.declared.rr.record.Record.{Record}
 use Rattle.hickory_zone.specs.declared.additionals.Source.TheVariants as source
-use Rattle.hickory_zone.specs.Additionals.{AreAdditionals, hosts_of}
+use Rattle.hickory_zone.specs.Additionals.{AreAdditionals}
 use Rattle.hickory_zone.specs.representation.KeysBeside.{Entry}
 use Rattle.hickory_zone.specs.representation.TopCuts.{AreGlueOf}
 use Rattle.hickory_zone.specs.Zones.{Records, Zone}
@@ -16,7 +16,7 @@ Section = Vec (Record RData) Global
 
 -- the addresses of the servers that are a set's records
 abbrev pub IsGlueOf : Zone → Records → Section → Type 0
-IsGlueOf zone servers glue = AreAdditionals source.Glue zone [] (hosts_of servers) glue.items
+IsGlueOf zone servers glue = AreAdditionals source.Glue zone [] servers glue.items
 
 pub glue_at : (zone : Zone) (es : List Entry) (all : List Section) (i : ℕ) (e : Entry) (glue : Section) → AreGlueOf zone es all → slice_get es i ≡ Some e → glue ≡ get_or all i glue → IsGlueOf zone e.1.value glue
 glue_at zone [] all i e glue are at is = absurd cc

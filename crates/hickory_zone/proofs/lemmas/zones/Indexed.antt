@@ -1,14 +1,10 @@
 -- Sets that are searched by numbers.
-use Rattle.std.proofs.Common.{◌≡◌, ℕ, zero, suc, ◌+◌, ◌<◌, Bool, true, false, cond, List, [], ◌∷◌, ◌++◌, length, drop, filter, get_or, Option, Some, None, refl, sym, ap, subst, ◌∙◌, arith}
+use Rattle.std.proofs.Common.{◌≡◌, ℕ, zero, suc, ◌+◌, ◌<◌, Bool, true, false, cond, List, [], ◌∷◌, ◌++◌, length, drop, get_or, Some, refl, sym, ap, subst, ◌∙◌, arith}
 use Rattle.std.specs.Prelude.{◌==◌, nat_lt, slice_get}
 use Rattle.std.specs.List.{Contains}
 use Rattle.std.specs.Ordering.{is_lt, nat_cmp, ordering_then}
 use Rattle.std.specs.declared.cmp.Ordering.{Ordering}
 use Rattle.std.specs.declared.cmp.Ordering.TheVariants.{Less, Equal, Greater}
-use Rattle.std.specs.Map.{keys_of}
-use Rattle.std.specs.BTreeMap.Range.{entries_between, range_contains}
-use Rattle.std.specs.List.Sorted.{IsStrictlySortedBy}
-use Rattle.std.specs.declared.ops.Bound.TheVariants.{Included, Unbounded}
 use Rattle.std.proofs.lemmas.Grind.{common_steps}
 use Rattle.std.proofs.Math.Seq.{drop-cons}
 use Rattle.wire_names.specs.rr.domain.DomainName.{DomainName}
@@ -18,10 +14,8 @@ use Rattle.wire_names.proofs.lemmas.rr.domain.OrderWords.{word_order}
 use Rattle.wire_messages.specs.declared.rr.rr_key.RrKey.{RrKey}
 use Rattle.wire_messages.specs.rr.RrKeys.{key_cmp}
 use Rattle.hickory_zone.specs.representation.Indexes.{AreWordsOf, IsWordOf}
-use Rattle.hickory_base.proofs.lemmas.zone_store.ZoneByName.{key_total, keys-shared}
-use Rattle.hickory_base.specs.zone_store.ZoneSets.{sets_of, shared_sets}
-use Rattle.hickory_zone.specs.representation.KeysBeside.{Entry, IsFirst, SharedMap, StandsBehind}
-use Rattle.hickory_zone.proofs.lemmas.zones.Ranges.{is_range, keys_there}
+use Rattle.hickory_base.specs.zone_store.ZoneSets.{shared_sets}
+use Rattle.hickory_zone.specs.representation.KeysBeside.{Entry}
 
 some_same : {A : Type 0} {x y : A} → Some x ≡ Some y → x ≡ y
 some_same e = cc
@@ -91,35 +85,6 @@ pub in_turn : {X : Type 0} (xs : List X) (i : ℕ) (x : X) → i < length xs →
 in_turn xs i x h is =
     let next : suc i ≡ i + 1 = omega arith in
     drop-cons xs i x h ∙ ap (λ y. y ∷ drop (suc i) xs) (sym is) ∙ ap (λ n. x ∷ drop n xs) next
-
-same_keys : (es ms : List Entry) → shared_sets ms ≡ shared_sets es → keys_of ms ≡ keys_of es
-same_keys es ms is = sym (keys-shared ms) ∙ ap keys_of is ∙ keys-shared es
-
--- the first key of entries is told by their keys
-pub first_of_keys : (es ms : List Entry) (key : Option RrKey) → keys_of ms ≡ keys_of es → IsFirst es key → IsFirst ms key
-first_of_keys es [] None same first = refl
-first_of_keys es (m ∷ ms) None same first = absurd (let none : es ≡ [] = first in let some : m.0 ∷ keys_of ms ≡ [] = same ∙ ap keys_of none in cc)
-first_of_keys es [] (Some key) same first = absurd (let none : [] ≡ key ∷ keys_of first.1 = same ∙ ap keys_of first.2 in cc)
-first_of_keys es (m ∷ ms) (Some key) same first =
-    let both : m.0 ∷ keys_of ms ≡ key ∷ keys_of first.1 = same ∙ ap keys_of first.2 in
-    let own : m.0 ≡ key = cc in
-    (m.1, ms, ap (λ k. (k, m.1) ∷ ms) own)
-
--- what is the first key of an index from one on stands behind it in each map of these sets
-pub behind_in : (es range : List Entry) (first : RrKey) (key : Option RrKey) → IsStrictlySortedBy key_cmp (keys_of es) → range ≡ entries_between key_cmp (Included first) Unbounded es → IsFirst range key
-    → (sets : SharedMap) → sets_of sets ≡ shared_sets es → StandsBehind sets first key
-behind_in es range first key sorted is least sets same =
-    let keys : keys_of sets.entries ≡ keys_of es = same_keys es sets.entries same in
-    let ordered : IsStrictlySortedBy key_cmp (keys_of sets.entries) = subst (IsStrictlySortedBy key_cmp) (sym keys) sorted in
-    let part = entries_between key_cmp (Included first) Unbounded sets.entries in
-    let parts : keys_of part ≡ keys_of range = keys_there key_total first sets.entries ∙ ap (filter (λ k. range_contains key_cmp (Included first) Unbounded k)) keys ∙ sym (keys_there key_total first es) ∙ sym (ap keys_of is) in
-    record {
-      ordered = ordered;
-      range = part;
-      whole = refl;
-      of = is_range key_total first sets ordered part refl;
-      least = first_of_keys range part key parts least;
-    }
 
 -- an entry of an index is one of its sets
 pub among_sets : (es : List Entry) (i : ℕ) (e : Entry) → i < length es → get_or es i e ≡ e → Contains (shared_sets es) (e.0, e.1.value)

@@ -12,11 +12,11 @@ use Rattle.wire_names.specs.rr.domain.NameOrder.{name_cmp}
 use Rattle.wire_messages.specs.rr.RrKeys.{key_cmp}
 use Rattle.wire_messages.specs.declared.rr.rr_key.RrKey.{RrKey}
 use Rattle.hickory_base.proofs.lemmas.zone_store.KeyOrder.{from_first_on, of_name, while_of}
-use Rattle.hickory_base.proofs.lemmas.zone_store.ZoneByName.{eq_numbers, eq_then}
+use Rattle.hickory_base.proofs.lemmas.zone_store.ZoneByName.{eq_numbers, eq_then, itself}
 use Rattle.hickory_base.specs.declared.zone_store.record_set.RecordSet.{RecordSet}
 use Rattle.hickory_base.specs.zone_store.ZoneSets.{has_name, is_key, shared_sets}
 use Rattle.std.specs.Option.{unwrap_or}
-use Rattle.hickory_zone.specs.representation.KeysBeside.{IsFirst}
+use Rattle.hickory_zone.specs.representation.KeysBeside.{HaveOneName, IsFirst}
 use Rattle.hickory_zone.specs.Zones.{Records, rrset}
 use Rattle.hickory_zone.specs.representation.FoundRecords.{first_or}
 
@@ -96,3 +96,8 @@ none_met None its is = ap (key_or None) is
 pub met_at_break : (found kept : Option RrKey) (e : RrKey × Rc RecordSet Global) (rest its : Entries) → its ≡ e ∷ rest → kept ≡ Some (unwrap_or found e.0) → kept ≡ key_or found its
 met_at_break (Some key) kept e rest its is k = k
 met_at_break None kept e rest its is k = k ∙ ap (key_or None) (sym is)
+
+-- a key has its own name
+pub one_itself : (key : Option RrKey) → HaveOneName key key
+one_itself None = tt
+one_itself (Some key) = itself key.name

@@ -21,10 +21,10 @@ use Rattle.hickory_base.proofs.lemmas.zone_store.KeyOrder.{from_first}
 use Rattle.hickory_base.proofs.lemmas.zone_store.ZoneByName.{key_total, keys-shared}
 use Rattle.hickory_base.specs.declared.zone_store.record_set.RecordSet.{RecordSet}
 use Rattle.hickory_base.specs.zone_store.ZoneSets.{sets_of}
-use Rattle.hickory_zone.proofs.lemmas.names.EnclosedBetween.{between, encloses_up_to}
+use Rattle.hickory_zone.proofs.lemmas.names.EnclosedBetween.{between, encloses_up_to, same_back}
 use Rattle.std.specs.Prelude.{◌↔◌}
 use Rattle.hickory_zone.specs.representation.FoundRecords.{IsAbove}
-use Rattle.hickory_zone.specs.representation.KeysBeside.{SharedMap, StandsBehind}
+use Rattle.hickory_zone.specs.representation.KeysBeside.{HaveOneName, IsFirst, SharedMap, StandsBehind}
 use Rattle.hickory_zone.specs.Zones.{AreOwners, IsOwner, Exists}
 
 abbrev pub Entry : Type 0
@@ -109,11 +109,31 @@ module _ (sets : SharedMap) (first : RrKey) (range : List Entry) (least : first.
     none : {X : Type 0} (o : Option X) → is_some o ≡ true → o ≡ None → ⊥
     none o h e = cc
 
+-- names are above both keys or above neither
+pub above_same : (n : DomainName) (one other : Option RrKey) → HaveOneName one other → IsAbove n one → IsAbove n other
+above_same n None None same a = a
+above_same n None (Some k) same a = absurd same
+above_same n (Some k) None same a = absurd same
+above_same n (Some k) (Some f) same a = record { front = a.front; ends = sym same.labels ∙ a.ends }
+
+pub turned : (one other : Option RrKey) → HaveOneName one other → HaveOneName other one
+turned None None same = tt
+turned None (Some k) same = absurd same
+turned (Some k) None same = absurd same
+turned (Some k) (Some f) same = same_back k.name f.name same
+
 -- whether a name exists, by the first key from it on
+exists_from : (sets : SharedMap) (first : RrKey) (range : List Entry) (key : Option RrKey) (origin : DomainName) → first.record_type ≡ 0 → first.name.is_fqdn ≡ true → AreOwners origin (sets_of sets)
+    → range ≡ entries_between key_cmp (Included first) Unbounded sets.entries → IsRangeOf key_cmp (Included first) Unbounded sets range → IsFirst range key
+    → Exists (sets_of sets) first.name ↔ IsAbove first.name key
+exists_from sets first range None origin least qualified all whole of met = (λ x. none_exists sets first range least qualified origin all whole of met x, λ a. absurd a)
+exists_from sets first range (Some key) origin least qualified all whole of met = (
+  λ x. first_below sets first range least qualified origin all whole of (key, met.0) met.1 met.2 x,
+  λ a. exists_by sets first range least qualified origin all whole of (key, met.0) met.1 met.2 a,
+)
+
 pub exists_behind : (sets : SharedMap) (first : RrKey) (key : Option RrKey) (origin : DomainName) → first.record_type ≡ 0 → first.name.is_fqdn ≡ true → AreOwners origin (sets_of sets) → StandsBehind sets first key
     → Exists (sets_of sets) first.name ↔ IsAbove first.name key
-exists_behind sets first None origin least qualified all b = (λ x. none_exists sets first b.range least qualified origin all b.whole b.of b.least x, λ a. absurd a)
-exists_behind sets first (Some key) origin least qualified all b = (
-  λ x. first_below sets first b.range least qualified origin all b.whole b.of (key, b.least.0) b.least.1 b.least.2 x,
-  λ a. exists_by sets first b.range least qualified origin all b.whole b.of (key, b.least.0) b.least.1 b.least.2 a,
-)
+exists_behind sets first key origin least qualified all b =
+    let own = exists_from sets first b.range b.own origin least qualified all b.whole b.of b.least in
+    (λ x. above_same first.name b.own key (turned key b.own b.same) (own.0 x), λ a. own.1 (above_same first.name key b.own b.same a))

@@ -16,12 +16,12 @@ use Rattle.std.proofs.lemmas.List.Kept.{IsStrictlySortedBy-filter}
 use Rattle.std.proofs.lemmas.Map.Entries.{btree_map_get_place, lookup-filter-keys}
 use Rattle.std.proofs.lemmas.Option.{slice_get-get_or}
 
-le_of : (x : Ordering) → (is_le x && true) ≡ true → is_gt x ≡ false
+pub le_of : (x : Ordering) → (is_le x && true) ≡ true → is_gt x ≡ false
 le_of Less h = refl
 le_of Equal h = refl
 le_of Greater h = absurd cc
 
-of_le : (x : Ordering) → is_gt x ≡ false → (is_le x && true) ≡ true
+pub of_le : (x : Ordering) → is_gt x ≡ false → (is_le x && true) ≡ true
 of_le Less h = refl
 of_le Equal h = refl
 of_le Greater h = absurd cc
@@ -56,7 +56,7 @@ module _ {K : Type 0} {R : K → K → Ordering} (o : IsTotalOrder R) where
     least_step q e es true below is h = ap is_gt (back q e.0 Equal (tied (R q e.0) is))
     least_step q e es false below is h = ap is_gt (above q e.0 es below h)
 
-    least : (q : K) (es : List (K × X)) → IsStrictlySortedBy R (keys_of es) → is_some (lookup (is_at (R q)) es) ≡ true → IfSome (slice_get es 0) (λ e. IsLeBy R e.0 q)
+    pub least : (q : K) (es : List (K × X)) → IsStrictlySortedBy R (keys_of es) → is_some (lookup (is_at (R q)) es) ≡ true → IfSome (slice_get es 0) (λ e. IsLeBy R e.0 q)
     unfolding IsStrictlySortedBy
     least q [] sorted held = tt
     least q (e ∷ es) sorted held = least_step q e es (is_eq (R q e.0)) sorted.0 refl held
@@ -79,14 +79,14 @@ module _ {K : Type 0} {R : K → K → Ordering} (o : IsTotalOrder R) where
         (λ same. ap is_lt (alike_right o q x.0 e.0 same ∙ back x.0 e.0 Less (of_last (λ y. R x.0 y ≡ Less) t e sorted.0))) refl held
 
     -- what is looked for is among those from a key on, if it is not below it
-    held_there : (first q : K) (es : List (K × X)) → IsLeBy R first q → lookup (is_at (R q)) (entries_between R (Included first) Unbounded es) ≡ lookup (is_at (R q)) es
+    pub held_there : (first q : K) (es : List (K × X)) → IsLeBy R first q → lookup (is_at (R q)) (entries_between R (Included first) Unbounded es) ≡ lookup (is_at (R q)) es
     held_there first q es h = lookup-filter-keys (is_at (R q)) (passes first) true (λ k t. of_le (R first k) (ap is_gt (sym (alike_right o q k first (tied (R q k) t))) ∙ h)) es
 
     kept : (first : K) (b : Bool) (e : K × X) (rest : List (K × X)) → passes first e.0 ≡ b → AllByRecursion (λ (x : K × X). IsLeBy R first x.0) rest → AllByRecursion (λ (x : K × X). IsLeBy R first x.0) (cond b (e ∷ rest) rest)
     kept first true e rest is all = (le_of (R first e.0) is, all)
     kept first false e rest is all = all
 
-    all_from : (first : K) (es : List (K × X)) → AllByRecursion (λ (x : K × X). IsLeBy R first x.0) (entries_between R (Included first) Unbounded es)
+    pub all_from : (first : K) (es : List (K × X)) → AllByRecursion (λ (x : K × X). IsLeBy R first x.0) (entries_between R (Included first) Unbounded es)
     all_from first [] = tt
     all_from first (e ∷ es) = kept first (passes first e.0) e (entries_between R (Included first) Unbounded es) refl (all_from first es)
 

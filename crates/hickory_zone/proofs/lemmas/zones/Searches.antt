@@ -51,7 +51,7 @@ module _ {K X : Type 0} {R : K → K → Ordering} (o : IsTotalOrder R) (first :
   up_to (x ∷ es) zero e sorted is h = (below_first o first x.0 (ap (λ (y : K × X). R y.0 first) (some_same is) ∙ h), tt)
   up_to (x ∷ es) (suc i) e sorted is h = (below_first o first x.0 (o.trans x.0 e.0 first (at_place (λ y. R x.0 y ≡ Less) es i e sorted.0 is) h), up_to es i e sorted.1 is h)
 
-  all_behind : (k : K) (es : List (K × X)) → range_contains R (Included first) Unbounded k ≡ true → AllByRecursion (λ y. R k y ≡ Less) (keys_of es) → AreFrom R first es
+  pub all_behind : (k : K) (es : List (K × X)) → range_contains R (Included first) Unbounded k ≡ true → AllByRecursion (λ y. R k y ≡ Less) (keys_of es) → AreFrom R first es
   all_behind k [] h all = tt
   all_behind k (e ∷ es) h all = (ap (λ x. is_le x && true) (behind o first k e.0 (R first k) refl h all.0), all_behind k es h all.1)
 

@@ -1,16 +1,19 @@
 -- Whether a wildcard stands for a name.
-use Rattle.std.proofs.Common.{◌≡◌, ℕ, true, [], ◌∷◌, ◌++◌, inl, inr, Option, Some, None, sym, ap, subst, ◌∙◌, append_assoc}
+use Rattle.std.proofs.Common.{◌≡◌, ℕ, true, List, [], ◌∷◌, ◌++◌, inl, inr, Option, Some, None, sym, ap, subst, ◌∙◌, append_assoc}
 use Rattle.std.specs.Prelude.{◌⊎◌, IsSome}
+use Rattle.std.specs.BTreeMap.Range.{IsRangeOf, entries_between}
+use Rattle.std.specs.declared.ops.Bound.TheVariants.{Included, Unbounded}
 use Rattle.std.proofs.lemmas.Bool.{false≢true}
 use Rattle.wire_names.specs.rr.domain.DomainName.{DomainName}
 use Rattle.wire_names.specs.rr.domain.NameOrder.{lower_label, lower_labels}
+use Rattle.wire_messages.specs.rr.RrKeys.{key_cmp}
 use Rattle.wire_messages.specs.declared.rr.rr_key.RrKey.{RrKey}
 use Rattle.hickory_base.specs.zone_store.ZoneSets.{sets_of}
 use Rattle.hickory_zone.proofs.lemmas.zones.Beside.{by_behind}
-use Rattle.hickory_zone.proofs.lemmas.zones.Owners.{exists_behind}
+use Rattle.hickory_zone.proofs.lemmas.zones.Owners.{Entry, above_same, exists_behind}
 use Rattle.hickory_zone.specs.declared.find.Found.{Found}
 use Rattle.hickory_zone.specs.representation.FoundRecords.{IsAbove, WildFound, outcome_of}
-use Rattle.hickory_zone.specs.representation.KeysBeside.{SharedMap, StandsBehind}
+use Rattle.hickory_zone.specs.representation.KeysBeside.{IsFirst, SharedMap, StandsBehind}
 use Rattle.hickory_zone.specs.Zones.{AreOwners, Exists, Sets, at_node, by_wildcard, wildcard}
 
 module _ (sets : SharedMap) (encloser : DomainName) (t : ℕ) (first : RrKey) (behind : Option RrKey) (is : first.name ≡ wildcard encloser) (least : first.record_type ≡ 0) (qualified : encloser.is_fqdn ≡ true) (b : StandsBehind sets first behind) where
@@ -39,9 +42,13 @@ below_it sets name x = record {
 }
 
 -- a name that the key behind another is at or below exists
+above_from : (sets : SharedMap) (first : RrKey) (key : Option RrKey) (origin n : DomainName) → first.record_type ≡ 0 → first.name.is_fqdn ≡ true → AreOwners origin (sets_of sets)
+    → (range : List Entry) → range ≡ entries_between key_cmp (Included first) Unbounded sets.entries → IsRangeOf key_cmp (Included first) Unbounded sets range → IsFirst range key → IsAbove n key → Exists (sets_of sets) n
+above_from sets first None origin n least qualified owners range whole of met a = absurd a
+above_from sets first (Some key) origin n least qualified owners range whole of met a = by_behind sets first least qualified origin owners range whole of n (key, met.0) met.1 met.2 a
+
 above_behind : (sets : SharedMap) (first : RrKey) (key : Option RrKey) (origin n : DomainName) → first.record_type ≡ 0 → first.name.is_fqdn ≡ true → AreOwners origin (sets_of sets) → StandsBehind sets first key → IsAbove n key → Exists (sets_of sets) n
-above_behind sets first None origin n least qualified owners b a = absurd a
-above_behind sets first (Some key) origin n least qualified owners b a = by_behind sets first least qualified origin owners b.range b.whole b.of n (key, b.least.0) b.least.1 b.least.2 a
+above_behind sets first key origin n least qualified owners b a = above_from sets first b.own origin n least qualified owners b.range b.whole b.of b.least (above_same n key b.own b.same a)
 
 -- a name exists that a wildcard or the key behind another tells of
 pub told : (sets : SharedMap) (first : RrKey) (key : Option RrKey) (origin n : DomainName) (t : ℕ) (wild : Option Found) → first.record_type ≡ 0 → first.name.is_fqdn ≡ true → AreOwners origin (sets_of sets) → StandsBehind sets first key

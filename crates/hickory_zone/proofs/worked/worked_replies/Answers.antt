@@ -1,15 +1,15 @@
-use Rattle.std.proofs.Common.{[], ◌∷◌, refl, arith}
+use Rattle.std.proofs.Common.{true, [], ◌∷◌, refl, arith}
 use Rattle.std.proofs.lemmas.Bool.{false≢true}
 use Rattle.wire_messages.specs.Numbers.{type_a, type_aaaa, type_cname, type_mx, type_ns, type_txt}
 use Rattle.wire_messages.specs.serialize.reading.NameReading.{name, labels_from, labels_within}
 use Rattle.wire_messages.specs.declared.rr.rdata.RData.TheVariants as rdata
 use Rattle.hickory_zone.proofs.lemmas.zones.Written.{above_told, as_denied, as_matched, as_redirected, as_referred, as_wild, encloses_by, redirects_by}
-use Rattle.hickory_zone.specs.Additionals.{host, inside, is_added, no_host}
+use Rattle.hickory_zone.specs.Additionals.{host, inside, is_added, no_host, no_record, record_by}
 use Rattle.hickory_zone.specs.Chains.{finishes, follows}
 use Rattle.hickory_zone.specs.Endings as ended
-use Rattle.hickory_zone.specs.Replies.{refuses, replies}
+use Rattle.hickory_zone.specs.Replies.{refuses, replies, whole}
 use Rattle.hickory_zone.specs.WorkedRedirections.{below_long, long, made, moved, redirecting, to_far, www_old}
-use Rattle.hickory_zone.specs.WorkedReplies.{loud_host3, loud_new, loud_old}
+use Rattle.hickory_zone.specs.WorkedReplies.{denying_soa, loud_host3, loud_new, loud_old}
 use Rattle.hickory_zone.specs.WorkedZones.{address, child, cuts, example, host1, host3, into_child, mail, nobody, ns_child, owned, server, to_child, to_nobody, text, to_text, wildcards}
 use Rattle.hickory_zone.proofs.worked.worked_replies.Goals as goal
 
@@ -20,9 +20,9 @@ returns-clause-answer_with_address c = replies (record { within = record { quali
   chases = finishes (as_wild wildcards host3 type_mx refl refl 0 refl refl refl refl refl) refl;
   ends_in = record {
     additionals = owned host1 (address 1) ∷ [];
-    completed = host {four = owned host1 (address 1) ∷ []} {six = []} {rest = []}
+    completed = record_by {gained = owned host1 (address 1) ∷ []} {rest = []} {r = owned host3 mail} (host {four = owned host1 (address 1) ∷ []} {six = []} {name = host1} refl
         (is_added refl (inside (record { qualified = refl; within = encloses_by example host1 refl }) (as_matched wildcards host1 type_a refl refl refl)))
-        (is_added refl (inside (record { qualified = refl; within = encloses_by example host1 refl }) (as_matched wildcards host1 type_aaaa refl refl refl))) no_host;
+        (is_added refl (inside (record { qualified = refl; within = encloses_by example host1 refl }) (as_matched wildcards host1 type_aaaa refl refl refl)))) no_record;
     is = refl;
   };
 })
@@ -34,7 +34,7 @@ returns-clause-servers_at_cut c = replies (record { within = record { qualified 
   chases = finishes (as_referred cuts child type_ns refl 0 (owned child (rdata.NS ns_child) ∷ []) refl refl refl (λ e ds. absurd (omega arith)) refl) refl;
   ends_in = record {
     additionals = owned ns_child (address 53) ∷ [];
-    completed = host {four = owned ns_child (address 53) ∷ []} {six = []} {rest = []} (is_added refl refl) (is_added refl refl) no_host;
+    completed = record_by {gained = owned ns_child (address 53) ∷ []} {rest = []} (host {four = owned ns_child (address 53) ∷ []} {six = []} refl (is_added refl refl) (is_added refl refl)) no_record;
     is = refl;
   };
 })
@@ -48,13 +48,21 @@ returns-clause-cut_behind_alias c = replies (record { within = record { qualifie
       (finishes (as_referred cuts to_child type_a refl 1 (owned child (rdata.NS ns_child) ∷ []) refl refl refl (λ e ds. absurd (omega arith)) refl) refl);
   ends_in = record {
     additionals = owned ns_child (address 53) ∷ [];
-    completed = host {four = owned ns_child (address 53) ∷ []} {six = []} {rest = []} (is_added refl refl) (is_added refl refl) no_host;
+    completed = record_by {gained = owned ns_child (address 53) ∷ []} {rest = []} (host {four = owned ns_child (address 53) ∷ []} {six = []} refl (is_added refl refl) (is_added refl refl)) no_record;
     is = refl;
   };
 })
 
 pub returns-clause-no_data : goal.returns-clause-no_data
 returns-clause-no_data c = replies (record { within = record { qualified = refl; within = encloses_by example to_text refl }; class = refl }) (record {
+  chain = [];
+  ending = ended.no_data;
+  chases = finishes (as_matched cuts to_text type_a refl refl refl) refl;
+  ends_in = record { additionals = []; completed = refl; is = refl };
+})
+
+pub returns-clause-any_class : goal.returns-clause-any_class
+returns-clause-any_class c = replies {reply = whole 0 true [] (denying_soa ∷ []) []} (record { within = record { qualified = refl; within = encloses_by example to_text refl }; class = refl }) (record {
   chain = [];
   ending = ended.no_data;
   chases = finishes (as_matched cuts to_text type_a refl refl refl) refl;
@@ -99,7 +107,7 @@ returns-clause-spelled_as_asked c = replies (record { within = record { qualifie
   chain = owned loud_host3 text ∷ [];
   ending = ended.answer;
   chases = finishes (as_wild wildcards host3 type_txt refl refl 0 refl refl refl refl refl) refl;
-  ends_in = record { additionals = []; completed = no_host; is = refl };
+  ends_in = record { additionals = []; completed = record_by {gained = []} {rest = []} (no_host refl) no_record; is = refl };
 })
 
 pub returns-clause-made_as_asked : goal.returns-clause-made_as_asked
@@ -108,5 +116,5 @@ returns-clause-made_as_asked c = replies (record { within = record { qualified =
   chain = moved ∷ made loud_old loud_new ∷ [];
   ending = ended.answer;
   chases = finishes (as_redirected redirecting www_old type_cname 1 (moved ∷ []) (redirects_by redirecting www_old 1 (omega arith) (omega arith) refl refl refl refl) refl) refl;
-  ends_in = record { additionals = []; completed = no_host; is = refl };
+  ends_in = record { additionals = []; completed = record_by {gained = []} {rest = []} (no_host refl) (record_by {gained = []} {rest = []} (no_host refl) no_record); is = refl };
 })

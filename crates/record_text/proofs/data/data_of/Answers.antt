@@ -2,7 +2,7 @@ use Rattle.std.proofs.Common.{ℕ, List, Result, Ok, Err, None}
 use Rattle.std.proofs.lemmas.Result.{err_from_is_err_and}
 use Rattle.std.specs.Prelude.{◌≢◌, IfErr}
 use Rattle.wire_messages.specs.declared.rr.rdata.RData.{RData}
-use Rattle.service_text.specs.ServiceText.{ParametersOfWords}
+use Rattle.text_data.specs.ServiceText.{ParametersOfWords}
 use Rattle.text_words.specs.declared.error.TextError.{TextError}
 use Rattle.text_words.specs.declared.error.TextError.TheVariants.{Memory}
 use Rattle.text_words.specs.declared.words.TextKind.{TextKind}

@@ -3,7 +3,7 @@ use Rattle.served_zones.proofs.chains.chain.Goals.{in-Some+in_ok-clone+in_ok-pus
 use Rattle.served_zones.proofs.chains.chain.Goals as goal
 
 pub returns : goal.returns
-returns c =
+returns g c =
     elim c.match-list.branch [
       | in-Some+in_ok-clone+in_ok-push-2 w ↦ rw (w.in-Some.is, w.chain-is) (w.in_ok-clone.field-0, w.in_ok-clone.ensures.cases, search rules)
       | in_default w ↦

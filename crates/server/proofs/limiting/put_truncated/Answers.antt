@@ -1,5 +1,5 @@
 use Rattle.std.proofs.Common.{◌≡◌, ◌≤◌, ◌++◌, ℕ, List, length, take}
-use Rattle.rate_limits.specs.Truncating.{IsTruncated}
+use Rattle.server_limits.specs.Truncating.{IsTruncated}
 use Rattle.server.specs.Frames.{BeginsWith, IsFrame}
 use Rattle.server.proofs.Results.{some_more}
 use Rattle.server.proofs.limiting.put_truncated.Goals as goal

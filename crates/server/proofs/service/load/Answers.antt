@@ -4,13 +4,10 @@ use Rattle.server.proofs.service.load.Goals as goal
 pub returns-then-branch-clause-loaded : goal.returns-then-branch-clause-loaded
 returns-then-branch-clause-loaded c =
     let (was, changes, fresh) = c.in_ok-put_chain.ensures.put in record {
-      apex = c.in_ok-apex.ensures;
-      list_is = c.in_ok-list.ensures;
-      zone = c.in_ok-zone.zone;
-      served = c.in_ok-zone.ensures.zone;
-      handler = c.in_ok-handler.handler;
-      placed = c.in_ok-handler.ensures;
+      spelled = c.in_ok-apex.ensures;
+      zone = c.in_ok-zone.zone.updatable.zone;
+      of_file = c.in_ok-zone.ensures.read;
       chain = c.in_ok-chain.chain.items;
-      chained = c.in_ok-chain.ensures;
+      chained = rw c.in_ok-zone.ensures.zone at c.in_ok-chain.ensures;
       changed = rw (none_is was (fresh.0 c.if-branch.true)) at changes;
     }

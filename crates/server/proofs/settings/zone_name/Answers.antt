@@ -1,4 +1,4 @@
 use Rattle.server.proofs.settings.zone_name.Goals as goal
 
-pub returns-in-Ok-apex : goal.returns-in-Ok-apex
-returns-in-Ok-apex c = rw c.in-Ok.ensures.cases.0 at c.in-Ok-apex.ensures.spelled
+pub returns-in-Ok : goal.returns-in-Ok
+returns-in-Ok c = rw c.in_ok-text.ensures at c.in-Ok.ensures.spelled

@@ -3,7 +3,7 @@ use Rattle.std.proofs.Common.{rules, refl, subst}
 use Rattle.std.specs.List.{All}
 use Rattle.std.proofs.lemmas.List.{take_all}
 use Rattle.std.proofs.lemmas.List.Elements.{All-more}
-use Rattle.signed_server.specs.SignedAnswers.{Fits}
+use Rattle.signed_server.specs.SharedReplies.{Fits}
 use Rattle.signed_server.proofs.answers.all_fit.Goals as goal
 
 pub loop-message-preserved : goal.loop-message-preserved

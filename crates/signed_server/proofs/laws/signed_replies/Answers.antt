@@ -1,4 +1,5 @@
 -- The laws of signed replies, one behind the other.
+use Rattle.signed_server.proofs.Uncut.{streams_uncut}
 use Rattle.signed_server.proofs.Verified.{as_many, bad_replies, good_replies}
 use Rattle.signed_server.proofs.laws.signed_replies.Goals as goal
 
@@ -11,3 +12,6 @@ returns-clause-every c = λ keys judgement now messages leaving last are. as_man
 
 pub returns-clause-bad : goal.returns-clause-bad
 returns-clause-bad c = λ keys judgement message now reply right is. bad_replies c.replies_verify.ensures.wrong keys judgement message now reply right is
+
+pub returns-clause-streams : goal.returns-clause-streams
+returns-clause-streams c = streams_uncut

@@ -1,15 +1,13 @@
-use Rattle.std.proofs.Common.{sym, ◌∙◌}
-use Rattle.std.proofs.lemmas.List.{length-map}
 use Rattle.update_policy.proofs.Words.{one_first}
 use Rattle.update_policy.proofs.rule_text.rule_of.Goals as goal
 
 pub returns : goal.returns
 returns c = record {
   key = _;
-  behind = _;
+  rest = _;
   types = _;
   are = one_first c.args.words.now _ c.in-len1-up.len_at_least;
   key_is = c.in_ok-key.ensures;
   scope_is = c.in_ok-scope.ensures;
-  each_type = c.in_ok-types.ensures ∙ sym (length-map c.in_ok-scope.types.now (λ word. word.now));
+  types_are = c.in_ok-types.ensures;
 }

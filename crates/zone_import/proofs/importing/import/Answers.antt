@@ -3,7 +3,7 @@ use Rattle.std.proofs.Common.{◌≡◌, ◌∙◌, ap, subst, sym, ℕ, List, V
 use Rattle.std.specs.declared.alloc.Global.{Global}
 use Rattle.hickory_base.specs.zone_store.ZoneAnswers.{MemoryZone}
 use Rattle.hickory_base.specs.zone_store.ZoneSets.{sets_of}
-use Rattle.update_journal.specs.Read.{contents}
+use Rattle.journal.specs.Read.{contents}
 use Rattle.durable_updates.specs.Redone.{Redone}
 use Rattle.zone_import.proofs.Kept.{added, left_alone, one_or_other, turned}
 use Rattle.zone_import.proofs.importing.import.Goals as goal

@@ -1,6 +1,6 @@
 -- The journal of the file that counts.
 use Rattle.std.proofs.Common.{Bool, cond, subst}
-use Rattle.update_journal.specs.Read.{contents}
+use Rattle.journal.specs.Read.{contents}
 use Rattle.durable_updates.specs.Snapshots.{Recalls}
 use Rattle.durable_updates.proofs.Compactions.{start_durable}
 use Rattle.durable_updates.proofs.handler.JournalledZone.of_two.Goals as goal

@@ -2,8 +2,8 @@
 use Rattle.std.proofs.Common.{IsTrue, List, Vec, ℕ, Ok, refl, subst, sym}
 use Rattle.std.specs.declared.alloc.Global.{Global}
 use Rattle.hickory_store.specs.updates.UpdatableZone.{UpdatableZone}
-use Rattle.update_journal.specs.JournalState.{JournalState}
-use Rattle.update_journal.specs.Read.{contents}
+use Rattle.journal.specs.JournalState.{JournalState}
+use Rattle.journal.specs.Read.{contents}
 use Rattle.durable_updates.specs.Recorded.{IsRecovered}
 use Rattle.durable_updates.specs.Redone.{Redone}
 use Rattle.durable_updates.specs.Runs.{Opens, Starts, unused}

@@ -3,7 +3,7 @@ use Rattle.std.proofs.Common.{List, Vec, ℕ, subst, sym}
 use Rattle.std.specs.declared.alloc.Global.{Global}
 use Rattle.hickory_base.specs.zone_store.ZoneAnswers.{MemoryZone}
 use Rattle.hickory_store.specs.updates.UpdatableZone.{UpdatableZone}
-use Rattle.update_journal.specs.Read.{contents}
+use Rattle.journal.specs.Read.{contents}
 use Rattle.durable_updates.specs.Snapshots.{Recalls}
 use Rattle.durable_updates.specs.Versions.{AreFollowed, AreLed}
 use Rattle.durable_updates.proofs.Followed.{followed}

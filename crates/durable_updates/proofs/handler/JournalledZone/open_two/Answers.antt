@@ -2,7 +2,7 @@
 use Rattle.std.proofs.Common.{List, Vec, ℕ, subst, sym}
 use Rattle.std.specs.declared.alloc.Global.{Global}
 use Rattle.hickory_store.specs.updates.UpdatableZone.{UpdatableZone}
-use Rattle.update_journal.specs.Read.{contents}
+use Rattle.journal.specs.Read.{contents}
 use Rattle.durable_updates.specs.Recorded.{AreRecovered}
 use Rattle.durable_updates.specs.Snapshots.{Recalls}
 use Rattle.durable_updates.proofs.Compactions.{recovered}

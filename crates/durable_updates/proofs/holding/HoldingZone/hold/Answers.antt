@@ -1,7 +1,7 @@
 -- Nothing waits yet.
 use Rattle.std.proofs.Common.{◌∙◌, ℕ, List, Vec, ap, not, subst, sym}
 use Rattle.std.specs.declared.alloc.Global.{Global}
-use Rattle.update_journal.specs.Read.{contents}
+use Rattle.journal.specs.Read.{contents}
 use Rattle.durable_updates.specs.Holding.{IsAhead}
 use Rattle.durable_updates.proofs.HeldZones.{none_held, nothing_held}
 use Rattle.durable_updates.proofs.holding.HoldingZone.hold.Goals as goal

@@ -1,7 +1,7 @@
 -- What was held is written, or waits still.
 use Rattle.std.proofs.Common.{◌≡◌, ◌∙◌, ℕ, List, Option, Some, Vec, ap, option_map, subst, sym}
 use Rattle.std.specs.declared.alloc.Global.{Global}
-use Rattle.update_journal.specs.Read.{contents}
+use Rattle.journal.specs.Read.{contents}
 use Rattle.durable_updates.specs.Holding.{IsAhead, IsKeptBut}
 use Rattle.durable_updates.specs.Journalling.{JournalsAll}
 use Rattle.durable_updates.proofs.HeldZones.{waits, written}

@@ -1,7 +1,7 @@
 -- One update more is written, or waits.
 use Rattle.std.proofs.Common.{◌≡◌, ℕ, IsTrue, List, [], ◌∷◌, Option, None, Vec, ap, option_map, subst, sym}
 use Rattle.std.specs.declared.alloc.Global.{Global}
-use Rattle.update_journal.specs.Read.{contents}
+use Rattle.journal.specs.Read.{contents}
 use Rattle.durable_updates.specs.Holding.{IsKeptBut}
 use Rattle.durable_updates.specs.Recorded.{IsDurable}
 use Rattle.durable_updates.specs.ReadRequests.{those_read}

@@ -9,14 +9,14 @@ returns-clause-responses g c = no_replies g.H.ZoneHandler g.S.ReplySigner.signat
 
 pub returns-clause-within : goal.returns-clause-within
 returns-clause-within g c =
-    within g.H.ZoneHandler g.S.ReplySigner.signature_for c.what_is_written_keeps_the_limit.ensures.encoded c.replies_of_requests.ensures.requests c.replies_of_requests.ensures.transfers c.replies_of_requests.ensures.errors
+    within g.H.ZoneHandler g.S.ReplySigner.signature_for c.what_is_written_keeps_the_limit.ensures.encoded c.replies_of_requests.ensures.requests c.replies_of_requests.ensures.chains c.replies_of_requests.ensures.transfers c.replies_of_requests.ensures.errors
 
 pub returns-clause-alone : goal.returns-clause-alone
 returns-clause-alone g c =
     alone g.H.ZoneHandler g.S.ReplySigner.signature_for c.one_message.ensures.same c.one_message.ensures.no_fault
-    c.zones_apart.ensures.alone c.zones_apart.ensures.others c.zones_apart.ensures.apexes c.zones_apart.ensures.one_chain c.zones_apart.ensures.decided c.zones_apart.ensures.transfers
+    c.zones_apart.ensures.alone c.zones_apart.ensures.others c.zones_apart.ensures.apexes c.zones_apart.ensures.one_chain c.zones_apart.ensures.decided c.zones_apart.ensures.transfers c.zones_apart.ensures.chains c.zones_apart.ensures.nearest
 
 pub returns-clause-others : goal.returns-clause-others
 returns-clause-others g c =
     stay g.H.ZoneHandler g.S.ReplySigner.signature_for c.one_message.ensures.same c.one_message.ensures.no_fault
-    c.zones_apart.ensures.alone c.zones_apart.ensures.others c.zones_apart.ensures.apexes c.zones_apart.ensures.one_chain c.zones_apart.ensures.decided c.zones_apart.ensures.transfers
+    c.zones_apart.ensures.alone c.zones_apart.ensures.others c.zones_apart.ensures.apexes c.zones_apart.ensures.one_chain c.zones_apart.ensures.decided c.zones_apart.ensures.transfers c.zones_apart.ensures.chains c.zones_apart.ensures.nearest

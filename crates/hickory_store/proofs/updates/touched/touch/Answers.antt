@@ -16,11 +16,11 @@ returns-clause-zone c records now =
     let took = c.in_ok-records.records.items in
     let put = c.take_turn.new.records.items in
     let origin = c.as_name-origin.ensures.name ∙ c.origin.ensures in
-    turned c.args.zone.now.origin zone c.args.r.now old mid new records took put
+    turned c.args.by_rfc c.args.zone.now.origin zone c.args.r.now old mid new records took put
     (subst (λ (n : DomainName). PutsName n None old mid) c.in_ok-name.ensures c.take_name.ensures.others)
     (subst (λ (n : DomainName). PutsName n (Some put) mid new) c.in_ok-name.ensures c.in_ok-put_name.ensures)
     (c.in_ok-records.ensures.records ∙ ap (λ (n : DomainName). records_now zone old n) c.in_ok-name.ensures) now
-    (c.in_ok-is_changed.ensures.zone ∙ ap (λ o. after_record o took c.args.r.now) origin)
+    (c.in_ok-is_changed.ensures.zone ∙ ap (λ o. after_record c.args.by_rfc o took c.args.r.now) origin)
 
 pub returns-clause-changed : goal.returns-clause-changed
 returns-clause-changed c records now =
@@ -31,8 +31,8 @@ returns-clause-changed c records now =
     let took = c.in_ok-records.records.items in
     let put = c.take_turn.new.records.items in
     let origin = c.as_name-origin.ensures.name ∙ c.origin.ensures in
-    told c.args.zone.now.origin zone c.args.r.now old mid new records took put
+    told c.args.by_rfc c.args.zone.now.origin zone c.args.r.now old mid new records took put
     (subst (λ (n : DomainName). PutsName n None old mid) c.in_ok-name.ensures c.take_name.ensures.others)
     (subst (λ (n : DomainName). PutsName n (Some put) mid new) c.in_ok-name.ensures c.in_ok-put_name.ensures)
     (c.in_ok-records.ensures.records ∙ ap (λ (n : DomainName). records_now zone old n) c.in_ok-name.ensures) now
-    c.in_ok-is_changed.is_changed (c.in_ok-is_changed.ensures.changed ∙ ap (λ o. changes o took c.args.r.now) origin)
+    c.in_ok-is_changed.is_changed (c.in_ok-is_changed.ensures.changed ∙ ap (λ o. changes c.args.by_rfc o took c.args.r.now) origin)

@@ -20,11 +20,11 @@ loop-r-preserved c records now =
     let r = c.r-item.result in
     let held = c.loop-r.invariant records now in
     let left : drop i updates ≡ r ∷ drop (i + 1) updates = drop_more updates i r (omega arith) ∙ ap (λ (x : Record RData). x ∷ drop (i + 1) updates) (sym c.r-item.is) in (
-      after_record origin held.0 r,
+      after_record c.args.by_rfc origin held.0 r,
       c.in_ok-is_changed.ensures.zone held.0 held.1,
-      sym (ap (λ (us : List (Record RData)). after_updates origin held.0 us) left) ∙ held.2,
+      sym (ap (λ (us : List (Record RData)). after_updates c.args.by_rfc origin held.0 us) left) ∙ held.2,
       or_left c.loop-r.changed c.in_ok-is_changed.is_changed _ _ (c.in_ok-is_changed.ensures.changed held.0 held.1)
-          ∙ sym (ap (λ (us : List (Record RData)). c.loop-r.changed || any_change origin held.0 us) left) ∙ held.3,
+          ∙ sym (ap (λ (us : List (Record RData)). c.loop-r.changed || any_change c.args.by_rfc origin held.0 us) left) ∙ held.3,
     )
 
 pub returns-clause-zone : goal.returns-clause-zone
@@ -33,4 +33,4 @@ returns-clause-zone c records now =
     let updates = c.args.updates.now in
     let held = c.loop-r.invariant records now in
     subst (λ (zs : List (Record RData)). AreNow (zone_records c.args.zone.now.sets) c.loop-r.touched zs)
-    (sym (ap (λ (us : List (Record RData)). after_updates origin held.0 us) (drop_all c.loop-r.r-index updates (omega arith))) ∙ held.2) held.1
+    (sym (ap (λ (us : List (Record RData)). after_updates c.args.by_rfc origin held.0 us) (drop_all c.loop-r.r-index updates (omega arith))) ∙ held.2) held.1

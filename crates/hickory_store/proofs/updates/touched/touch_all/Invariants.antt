@@ -11,5 +11,5 @@ abbrev pub invariant-loop-r : goal.invariant-loop-r
 invariant-loop-r l =
     (records : List (Record RData)) → AreNow (zone_records l.zone.sets) l.fn.touched records
     → (now : List (Record RData)) × AreNow (zone_records l.zone.sets) l.touched now
-    × (after_updates l.zone.origin now (drop l.r-index l.updates) ≡ after_updates l.zone.origin records l.updates)
-    × ((l.changed || any_change l.zone.origin now (drop l.r-index l.updates)) ≡ any_change l.zone.origin records l.updates)
+    × (after_updates l.by_rfc l.zone.origin now (drop l.r-index l.updates) ≡ after_updates l.by_rfc l.zone.origin records l.updates)
+    × ((l.changed || any_change l.by_rfc l.zone.origin now (drop l.r-index l.updates)) ≡ any_change l.by_rfc l.zone.origin records l.updates)

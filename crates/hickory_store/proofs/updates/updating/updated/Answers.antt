@@ -23,8 +23,8 @@ returns-in_err-increment_apex c =
     let told = c.in_ok-is_changed.ensures.changed zone start in
     let fault = c.in_err-increment_apex.field-0.0 in
     let refused = subst (λ (outcome : Outcome). IsRefused outcome fault)
-    (sym (with_change origin zone updates c.args.increments c.if-increments.true (sym told ∙ c.if-not-is_changed.false)))
-    (c.in_err-increment_apex.ensures.refused (after_updates origin zone updates) left) in
+    (sym (with_change c.args.by_rfc origin zone updates c.args.increments c.if-increments.true (sym told ∙ c.if-not-is_changed.false)))
+    (c.in_err-increment_apex.ensures.refused (after_updates c.args.by_rfc origin zone updates) left) in
     let h = c.from_residual-in_err-increment_apex.ensures in
     from_err c.from_residual-in_err-increment_apex.result fault _ _ h.0 h.1 refused
 
@@ -37,14 +37,14 @@ returns c =
     let start = none_touched zone c.new-touched.result c.new-touched.ensures.empty in
     let left = c.in_ok-is_changed.ensures.zone zone start in
     let told = c.in_ok-is_changed.ensures.changed zone start in
-    let after : Records = after_updates origin zone updates in
+    let after : Records = after_updates c.args.by_rfc origin zone updates in
     elim c.if-increments.branch [
       | then-increments+else-not-is_changed+in_ok-increment_apex w ↦ (
         map (incremented origin) after,
         subst (λ (t : ByName). AreNow zone t (map (incremented origin) after)) (sym w.touched-is) (w.in_ok-increment_apex.ensures.zone after left),
-        with_change origin zone updates increments w.if-increments.true (sym told ∙ w.if-not-is_changed.false)
+        with_change c.args.by_rfc origin zone updates increments w.if-increments.true (sym told ∙ w.if-not-is_changed.false)
             ∙ serial_given origin after (w.in_ok-increment_apex.ensures.found after left)
             ∙ ap (λ (b : Bool). let o : Outcome = Ok (map (incremented origin) after, b) in o) (sym w.if-increments.true),
       )
-      | else-increments w ↦ (after, subst (λ (t : ByName). AreNow zone t after) (sym w.touched-is) left, without_serial origin zone updates increments w.if-increments.false)
+      | else-increments w ↦ (after, subst (λ (t : ByName). AreNow zone t after) (sym w.touched-is) left, without_serial c.args.by_rfc origin zone updates increments w.if-increments.false)
     ]

@@ -9,8 +9,9 @@ use Rattle.hickory_store.proofs.updates.zone_sets.take_set.Goals as goal
 
 pub returns-in-None-clause-records : goal.returns-in-None-clause-records
 returns-in-None-clause-records c =
-    c.new.ensures.items
-    ∙ ap or_none (lookup-is (is_key c.args.key.now.name c.args.key.now.record_type) c.args.sets.now.entries None (sym c.in-None.is ∙ c.remove.ensures.value))
+    IfOk-weaker c.with_capacity.result _ (λ records. records.items ≡ records_under c.args.key.now (sets_of c.args.sets.now))
+    (λ records h. h ∙ ap or_none (lookup-is (is_key c.args.key.now.name c.args.key.now.record_type) c.args.sets.now.entries None (sym c.in-None.is ∙ c.remove.ensures.value)))
+    c.with_capacity.ensures.items
 
 pub returns-in-None-clause-others : goal.returns-in-None-clause-others
 returns-in-None-clause-others c = puts c.args.key.now None c.args.sets.now.entries c.remove.new.self.entries (λ k. c.remove.ensures.updates.0 k)

@@ -6,7 +6,7 @@ use Rattle.hickory_zone.specs.representation.FoundRecords.{CutAbove}
 use Rattle.hickory_zone.specs.representation.Indexes.{IndexedSets}
 use Rattle.hickory_zone.specs.declared.additionals.Source.TheVariants as source
 use Rattle.hickory_zone.specs.declared.cuts.TopCut.{TopCut}
-use Rattle.hickory_zone.specs.Additionals.{AreAdditionals, hosts_of}
+use Rattle.hickory_zone.specs.Additionals.{AreAdditionals}
 use Rattle.hickory_zone.specs.representation.KeysBeside.{Entry}
 use Rattle.hickory_zone.specs.representation.TopCuts.{AreGlueOf, HasGlue, IsAt}
 use Rattle.hickory_zone.specs.Zones.{Records, Zone}
@@ -27,7 +27,7 @@ glue_is : (x : IndexedSets) (index : IndexedSets) (cuts : List Entry) (all : Lis
 glue_is x index cuts all top section glue told is are at own value some =
     subst (λ (y : IndexedSets). HasGlue (record { origin = y.apex; sets = shared_sets y.entries }) (record { servers = top.servers; glue = told })) is
     (subst (λ (o : Option (Bor Records)). HasGlue (record { origin = index.apex; sets = shared_sets index.entries }) (record { servers = top.servers; glue = o })) (sym some)
-    (subst (λ (rs : Records). AreAdditionals source.Glue (record { origin = index.apex; sets = shared_sets index.entries }) [] (hosts_of top.servers.now) rs) (sym value)
+    (subst (λ (rs : Records). AreAdditionals source.Glue (record { origin = index.apex; sets = shared_sets index.entries }) [] top.servers.now rs) (sym value)
     (subst (λ (rs : Records). IsGlueOf (record { origin = index.apex; sets = shared_sets index.entries }) rs section) at.servers
     (glue_at (record { origin = index.apex; sets = shared_sets index.entries }) cuts all top.place at.entry section are at.is own))))
 
@@ -40,7 +40,14 @@ returns-clause-glue c =
     elim c.match-get.branch [
       | in-Some-get w ↦
           let section : Section = w.in-Some-get.glue.now in
-          glue_is c.args.self.now (record { apex = c.self.inside.apex; entries = c.self.inside.entries.items }) c.self.inside.cuts.entries.items c.self.inside.glue.items c.in-Some.top section
+          glue_is c.args.self.now (record {
+            apex = c.self.inside.apex;
+            entries = c.self.inside.entries.items;
+            marks = c.self.inside.marks.items;
+            is_whole = c.self.inside.is_whole;
+            has_servers = c.self.inside.has_servers;
+            has_addresses = c.self.inside.has_addresses;
+          }) c.self.inside.cuts.entries.items c.self.inside.glue.items c.in-Some.top section
           w.as_slice-in-Some-get.result c.match-get.glue c.self.view_is c.self.invariant.2 c.in-Some.ensures.at
           (subst (λ (all : List Section). section ≡ get_or all c.in-Some.top.place section) c.as_slice.ensures.value w.in-Some-get.ensures.lookup.1) w.as_slice-in-Some-get.ensures.value w.glue-is
       | in-None w ↦ none_is zone c.in-Some.top c.match-get.glue w.glue-is

@@ -1,4 +1,4 @@
-use Rattle.std.proofs.Common.{◌≡◌, ◌∙◌, ◌++◌, List, [], ◌∷◌, sym, subst, ap, append_assoc}
+use Rattle.std.proofs.Common.{◌≡◌, ◌∙◌, ◌++◌, false, length, List, [], ◌∷◌, sym, subst, ap, append_assoc, arith, length-append}
 use Rattle.std.specs.Map.{keys_of}
 use Rattle.std.specs.List.{AllByRecursion}
 use Rattle.std.specs.List.Sorted.{IsStrictlySortedBy}
@@ -24,6 +24,7 @@ loop-key-init c =
     record {
       sets = ap (λ es. shared_sets es ++ shared_sets c.into_iter-key-iterator.result) none ∙ ap shared_sets gives;
       numbered = subst (λ es. AreWordsOf origin es c.in_ok-words.words.items) (sym none) (subst (AreWordsOf origin []) (sym unnumbered) tt);
+      marks = ap length c.in_ok-marks.ensures.items ∙ sym (ap length none);
       owners = subst (λ es. AllByRecursion (IsOwner origin) (keys_of (shared_sets es))) (sym gives) (recursion_from_All (IsOwner origin) (keys_of (shared_sets c.args.sets.now.entries)) c.requires.owners);
     }
 
@@ -50,6 +51,7 @@ loop-key-preserved c =
           ∙ sym (ap (λ es. before ++ shared_sets es) step) ∙ c.loop-key.invariant.sets;
       numbered = subst (λ es. AreWordsOf origin es c.push.new.self.items) (sym entries) (subst (AreWordsOf origin (c.loop-key.entries.items ++ e ∷ [])) (sym words)
           (one_more origin c.loop-key.entries.items c.loop-key.words.items e c.word_of.result c.loop-key.invariant.numbered word));
+      marks = omega (arith, c.loop-key.invariant.marks, ap length entries, ap length c.in_ok-push-3.ensures.items, length-append c.loop-key.entries.items (e ∷ []), length-append c.loop-key.marks.items (false ∷ []));
       owners = (subst (λ es. AllByRecursion (IsOwner origin) (keys_of (shared_sets es))) step c.loop-key.invariant.owners).1;
     }
 
@@ -78,4 +80,5 @@ invariant_of-result c =
       record { ordered = in_order entries c.loop-key.key-iterator (sets_of c.args.sets.now) c.loop-key.invariant.sets c.in-None.ensures.steps.0 c.requires.ordered; numbered = subst (λ d. AreWordsOf d entries c.loop-key.words.items) (sym apex) c.loop-key.invariant.numbered },
       subst (λ (d : DomainName). AreCutsOf (record { origin = d; sets = shared_sets entries }) c.in_ok-cuts.cuts) (sym apex) cuts,
       subst (λ (d : DomainName). AreGlueOf (record { origin = d; sets = shared_sets entries }) c.in_ok-cuts.cuts.entries.items c.in_ok-glue.glue.items) (sym apex) glue,
+      omega (arith, c.loop-key.invariant.marks, ap length c.in_ok-push-4.ensures.items, length-append c.loop-key.marks.items (false ∷ [])),
     )

@@ -5,8 +5,8 @@ use Rattle.std.specs.List.{slice_get}
 use Rattle.std.specs.Prelude.{IfErr, OnOk, ◌≢◌}
 use Rattle.hex.specs.Hex.{decode_of}
 use Rattle.record_text.specs.declared.data.field.Rest.TheVariants as kind
-use Rattle.location_text.specs.LocationText.{IsLocation}
-use Rattle.service_text.specs.ServiceText.{AreServiceParameters}
+use Rattle.text_data.specs.LocationText.{IsLocation}
+use Rattle.text_data.specs.ServiceText.{AreServiceParameters}
 use Rattle.text_words.specs.declared.error.TextError.{TextError}
 use Rattle.text_words.specs.declared.error.TextError.TheVariants.{Memory}
 use Rattle.text_words.specs.declared.words.Word.{Word}

@@ -2,11 +2,11 @@
 use Rattle.std.proofs.Common.{◌≡◌, inl, rules, refl, sym, ◌∙◌}
 use Rattle.hickory_base.proofs.lemmas.ResultMaps.{if_ok_map}
 use Rattle.hickory_server.specs.server.ServedBy.{arrival}
+use Rattle.hickory_server.proofs.lemmas.server.Results.{if_err_map}
 use Rattle.signed_server.specs.ServedWithKeys.{IsRequestOf, course_of}
 use Rattle.signed_server.specs.ServedWithKeys.ServedWithKeys.{bad, good, unreadable}
 use Rattle.signed_server.specs.declared.service.Course.TheVariants.{Sign}
 use Rattle.signed_server.proofs.Courses.{sign_is_left}
-use Rattle.signed_server.proofs.Errors.{if_err_map}
 use Rattle.signed_server.proofs.service.SignedServer.serve_signed.Goals as goal
 
 pub returns-in-Err : goal.returns-in-Err
@@ -15,9 +15,9 @@ returns-in-Err g c = record {
   names = refl;
   rules = refl;
   others = refl;
-  ok = if_ok_map c.unread.result _ _ (c.unread.ensures.ok c.requires.judging.request.whole) (λ answer is.
-      unreadable {judgement = c.args.judgement.now} {e = c.in-Err.fault} c.requires.judging c.requires.judged (c.in-Err.ensures.fault (search rules)) is refl);
-  err = if_err_map c.unread.result _ _ c.unread.ensures.err (λ e is. inl (is, refl));
+  ok = if_ok_map c.form_error.result _ _ c.form_error.ensures.ok (λ answer is.
+      unreadable {judgement = c.args.judgement.now} {e = c.in-Err.field-0} c.requires.judging c.requires.judged (c.in-Err.ensures.fault (search rules)) is refl);
+  err = if_err_map c.form_error.result _ _ c.form_error.ensures.err (λ e is. inl (is, refl));
 }
 
 pub returns-in-Ok-refused-clause-ok : goal.returns-in-Ok-refused-clause-ok

@@ -1,9 +1,11 @@
 use Rattle.std.proofs.Common.{◌≤◌, length, rules, refl}
 use Rattle.std.specs.Net.Socket.{socket_ip}
-use Rattle.access_control.specs.Access.{IsAllowed}
+use Rattle.server_limits.specs.Access.{IsAllowed}
 use Rattle.hickory_server.specs.server.Ruling.{IsResponse}
 use Rattle.hickory_server.specs.server.ServedBy.{unreadable}
+use Rattle.hickory_base.proofs.lemmas.ResultMaps.{if_ok_map}
 use Rattle.hickory_server.proofs.lemmas.server.BytesServed.{left, read_as, served}
+use Rattle.hickory_server.proofs.lemmas.server.Results.{if_err_map}
 use Rattle.hickory_server.proofs.server.service.Server.serve_reusing.Goals as goal
 
 pub returns-in-Ok-answered-clause-ok : goal.returns-in-Ok-answered-clause-ok
@@ -33,6 +35,8 @@ returns-in-Err g c =
     let no_response : ¬ (IsResponse c.args.bytes.now) = search rules in record {
       rules = refl;
       others = refl;
-      ok = λ message is. unreadable {e = c.in-Err.field-0} (rw is.source_is allowed) (rw is.bytes_are whole) (rw is.bytes_are no_response) (rw is.bytes_are (c.in-Err.ensures.fault (search rules))) refl refl;
-      err = tt;
+      ok = if_ok_map c.form_error.result _ _ c.form_error.ensures.ok (λ answer is_error message is.
+          unreadable {e = c.in-Err.field-0} (rw is.source_is allowed) (rw is.bytes_are whole) (rw is.bytes_are no_response) (rw is.bytes_are (c.in-Err.ensures.fault (search rules)))
+          (rw is.bytes_are is_error) refl);
+      err = if_err_map c.form_error.result _ _ c.form_error.ensures.err (λ e lacks message is. rw lacks (rw is.source_is allowed, refl));
     }

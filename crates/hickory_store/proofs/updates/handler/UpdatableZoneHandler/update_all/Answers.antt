@@ -1,5 +1,5 @@
 -- One request more was answered.
-use Rattle.std.proofs.Common.{◌∙◌, ap, arith, ◌∷◌, [], ◌++◌, subst, sym, take}
+use Rattle.std.proofs.Common.{◌∙◌, ap, arith, ◌∷◌, [], ◌++◌, false, subst, sym, take}
 use Rattle.std.proofs.lemmas.List.{take_more}
 use Rattle.hickory_store.specs.updates.UpdateAnswers.{UpdatesAll}
 use Rattle.hickory_store.proofs.lemmas.updates.UpdateRuns.{updates_more}
@@ -10,6 +10,6 @@ loop-n-preserved g c =
     let requests = c.args.requests.now in
     let n = c.loop-n.n in
     let item = c.index-requests-n.result in
-    subst (λ front. UpdatesAll g.V.Verifier front c.args.self.now c.update_one.new.self)
+    subst (λ front. UpdatesAll false g.V.Verifier front c.args.self.now c.update_one.new.self)
     (ap (λ r. take n requests ++ r ∷ []) c.index-requests-n.is ∙ sym (take_more requests n item (omega arith)))
-    (updates_more g.V.Verifier (take n requests) item c.args.self.now c.loop-n.self c.update_one.new.self c.loop-n.invariant c.in-Ok.ensures)
+    (updates_more false g.V.Verifier (take n requests) item c.args.self.now c.loop-n.self c.update_one.new.self c.loop-n.invariant c.in-Ok.ensures)

@@ -1,8 +1,0 @@
-use Rattle.access_control.proofs.lemmas.Prefixes.{PartsBehind}
-use Rattle.access_control.proofs.IpNet.common.Given as goal
-
-abbrev pub invariant-loop-length : goal.invariant-loop-length
-invariant-loop-length l = PartsBehind l.self l.other l.length
-
-abbrev pub decreases-loop-length : goal.decreases-loop-length
-decreases-loop-length l = l.length

@@ -1,5 +1,0 @@
-use Rattle.access_control.proofs.lemmas.Tries.{IsWalked}
-use Rattle.access_control.proofs.trie.Trie.longest_match.Given as goal
-
-abbrev pub invariant-loop-trie : goal.invariant-loop-trie
-invariant-loop-trie l = IsWalked l.self l.trie l.address l.longest

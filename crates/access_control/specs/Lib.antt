@@ -1,4 +1,0 @@
-pub mod Access
-pub mod NetworkTexts
-pub mod Prefixes
-pub mod representation

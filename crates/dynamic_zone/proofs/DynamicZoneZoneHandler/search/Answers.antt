@@ -1,7 +1,0 @@
--- In the zone as its updates left it.
-use Rattle.std.proofs.Common.{subst, sym}
-use Rattle.dynamic_zone.specs.Overviews.{IsOverview}
-use Rattle.dynamic_zone.proofs.DynamicZoneZoneHandler.search.Goals as goal
-
-pub search-requires : goal.search-requires
-search-requires g c = subst (λ z. IsOverview z c.self.inside.overview) (sym c.in_memory-zone.ensures) c.self.invariant

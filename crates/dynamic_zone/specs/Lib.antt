@@ -1,3 +1,0 @@
-pub mod DynamicZones
-pub mod OwnerLaws
-pub mod Overviews

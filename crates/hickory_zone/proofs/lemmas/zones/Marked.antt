@@ -1,0 +1,191 @@
+-- What the marks of an index tell of names that updates may have changed.
+use Rattle.std.proofs.Common.{◌≡◌, ℕ, zero, suc, ◌≤◌, Bool, true, false, ◌||◌, ◌&&◌, List, [], ◌∷◌, ◌++◌, take, drop, length, Option, Some, None, refl, sym, ap, subst, ◌∙◌, arith}
+use Rattle.std.specs.Prelude.{slice_get, slice_set, IfSome, IsSome}
+use Rattle.std.specs.List.{AllByRecursion, list_any}
+use Rattle.std.specs.Option.{option_copied}
+use Rattle.std.specs.BTreeMap.Range.{range_contains}
+use Rattle.std.specs.Cmp.{IsEquivalence, eq_by_cmp_equiv}
+use Rattle.std.specs.declared.cmp.Ordering.TheVariants.{Equal}
+use Rattle.std.specs.declared.ops.Bound.TheVariants.{Included, Unbounded}
+use Rattle.std.specs.Ordering.{is_le, nat_cmp, ordering_then}
+use Rattle.wire_names.specs.representation.NameHash.{equal_is}
+use Rattle.wire_names.specs.rr.domain.DomainName.{DomainName}
+use Rattle.wire_names.specs.rr.domain.NameOrder.{lower_name, name_cmp, name_cmp_total, name_eq}
+use Rattle.wire_names.proofs.lemmas.rr.domain.SameNames.{eq_from_same, lower_same}
+use Rattle.wire_messages.specs.rr.RrKeys.{key_cmp}
+use Rattle.wire_messages.specs.declared.rr.rdata.RData.{RData}
+use Rattle.wire_messages.specs.declared.rr.record.Record.{Record}
+use Rattle.wire_messages.specs.declared.rr.rr_key.RrKey.{RrKey}
+use Rattle.hickory_base.proofs.lemmas.zone_store.SoaAsked.{lookup_alike}
+use Rattle.hickory_base.proofs.lemmas.zone_store.ZoneByName.{key_total}
+use Rattle.hickory_base.specs.zone_store.ZoneRecords.{is_at}
+use Rattle.hickory_base.specs.zone_store.ZoneSets.{shared_sets}
+use Rattle.hickory_zone.proofs.lemmas.zones.Kept.{nameless}
+use Rattle.hickory_zone.specs.declared.additionals.Source.TheVariants as source
+use Rattle.hickory_zone.specs.declared.cuts.Cut.{Cut}
+use Rattle.hickory_zone.specs.Additionals.{AreAdditionals, Gains, GainsFor, host, is_added, no_host, no_record, record_by, some_records, stands_already}
+use Rattle.hickory_zone.specs.representation.FoundRecords.{CutAbove}
+use Rattle.hickory_zone.specs.representation.Indexes.{IndexedSets, IsIndexBut, IsIndexOf, IsPlaceOf, IsUnmarked, KeepsOthers, Marks}
+use Rattle.hickory_zone.specs.representation.KeysBeside.{Entry}
+use Rattle.hickory_zone.specs.representation.TopCuts.{HasGlue}
+use Rattle.hickory_zone.specs.Zones.{IsCut, Records, Sets, ancestor, rrset}
+
+-- ---- places
+
+marks_at : (marks : List Bool) (p q : ℕ) → slice_get (slice_set marks p true) q ≡ Some false → (slice_get marks q ≡ Some false) × (q ≡ p → ⊥)
+marks_at [] p q h = absurd cc
+marks_at (m ∷ marks) zero zero h = absurd cc
+marks_at (m ∷ marks) zero (suc q) h = (h, λ e. absurd (omega (arith, e)))
+marks_at (m ∷ marks) (suc p) zero h = (h, λ e. absurd (omega (arith, e)))
+marks_at (m ∷ marks) (suc p) (suc q) h = let rest = marks_at marks p q h in (rest.0, λ e. rest.1 (omega (arith, e)))
+
+not_both : (a b : Bool) → a ≡ b → a ≡ true → b ≡ false → ⊥
+not_both a b e f g = let no : true ≡ false = sym f ∙ e ∙ g in cc
+
+one_place_by : (f g : RrKey → Bool) → ((k : RrKey) → f k ≡ g k) → (es : List Entry) (p q : ℕ) → p ≤ length es → q ≤ length es
+    → AllByRecursion (λ (e : Entry). f e.0 ≡ false) (take p es) → AllByRecursion (λ (e : Entry). f e.0 ≡ true) (drop p es)
+    → AllByRecursion (λ (e : Entry). g e.0 ≡ false) (take q es) → AllByRecursion (λ (e : Entry). g e.0 ≡ true) (drop q es) → p ≡ q
+one_place_by f g same [] p q within under low high below above = omega arith
+one_place_by f g same (e ∷ es) zero zero within under low high below above = refl
+one_place_by f g same (e ∷ es) zero (suc q) within under low high below above = absurd (not_both (f e.0) (g e.0) (same e.0) high.0 below.0)
+one_place_by f g same (e ∷ es) (suc p) zero within under low high below above = absurd (not_both (g e.0) (f e.0) (sym (same e.0)) above.0 low.0)
+one_place_by f g same (e ∷ es) (suc p) (suc q) within under low high below above =
+    let rest : p ≡ q = one_place_by f g same es p q (omega arith) (omega arith) low.1 high below.1 above in omega (arith, rest)
+
+-- equal keys have one place
+one_place : (a b : RrKey) → key_cmp a b ≡ Equal → (es : List Entry) (p q : ℕ) → p ≤ length es → q ≤ length es → IsPlaceOf a es p → IsPlaceOf b es q → p ≡ q
+one_place a b e es p q within under is at =
+    one_place_by (λ k. range_contains key_cmp (Included a) Unbounded k) (λ k. range_contains key_cmp (Included b) Unbounded k) (λ k. ap (λ o. is_le o && true) (key_total.congr a b k e)) es p q within under is.before is.behind at.before at.behind
+
+module _ (first : RrKey) (old new : IndexedSets) (m : Marks first old new) where
+  marked : (k : RrKey) → IsUnmarked new k → IsUnmarked (record old { marks = slice_set old.marks m.place true; is_whole = false }) k
+  marked k u = subst (λ (i : IndexedSets). IsUnmarked i k) m.new_is u
+
+  pub was_unmarked : (k : RrKey) → IsUnmarked new k → IsUnmarked old k
+  was_unmarked k u = let v = marked k u in record { place = v.place; is = v.is; within = v.within; unmarked = (marks_at old.marks m.place v.place v.unmarked).0 }
+
+  pub other_key : (k : RrKey) → IsUnmarked new k → key_cmp first k ≡ Equal → ⊥
+  other_key k u e = let v = marked k u in (marks_at old.marks m.place v.place v.unmarked).1 (sym (one_place first k e old.entries m.place v.place m.within v.within m.is v.is))
+
+-- ---- names
+
+names : IsEquivalence name_eq
+names = eq_by_cmp_equiv name_cmp_total
+
+lower_own : (n : DomainName) → name_eq (lower_name n) n ≡ true
+lower_own n = eq_from_same (lower_name n) n (lower_same n)
+
+pub equal_keys : (a b : DomainName) → name_eq a b ≡ true → key_cmp (nameless a) (nameless b) ≡ Equal
+equal_keys a b e = ap (λ o. ordering_then o (nat_cmp 0 0)) (equal_is (name_cmp a b) e)
+
+second : (a b : Bool) → a ≡ false → b ≡ false → (a || b) ≡ false
+second a b e f = ap (λ x. x || b) e ∙ f
+
+false_of : (b : Bool) → (b ≡ true → ⊥) → b ≡ false
+false_of true h = absurd (h refl)
+false_of false h = refl
+
+-- ---- after an update
+
+module _ (records : Records) (origin : DomainName) (before after : Sets) (old new : IndexedSets) (m : Marks (nameless old.apex) old new) (of : IsIndexOf origin before old) (kept : KeepsOthers records origin before after) where
+  apart : (name : DomainName) → IsUnmarked new (nameless name) → name_eq name origin ≡ false
+  apart name u = false_of (name_eq name origin) (λ e. other_key (nameless old.apex) old new m (nameless name) u
+      (equal_keys old.apex name (ap (λ d. name_eq d name) of.apex ∙ names.symm origin name ∙ e)))
+
+  -- the place of the apex is marked, since the serial has changed
+  pub begun : IsIndexBut records origin after new
+  begun =
+      subst (IsIndexBut records origin after) (sym m.new_is) (record {
+        apex = of.apex;
+        whole = λ w. absurd (let no : false ≡ true = w in cc);
+        unmarked = λ name t none u.
+            let v = subst (λ (i : IndexedSets). IsUnmarked i (nameless name)) (sym m.new_is) u in
+            kept name t none (λ soa. apart name v) ∙ of.unmarked name t refl (was_unmarked (nameless old.apex) old new m (nameless name) v);
+        servers = λ name none has. kept name 2 none (λ soa. absurd (omega (arith, soa))) ∙ of.servers name refl has;
+        four = λ name none has. kept name 1 none (λ soa. absurd (omega (arith, soa))) ∙ of.four name refl has;
+        six = λ name none has. kept name 28 none (λ soa. absurd (omega (arith, soa))) ∙ of.six name refl has;
+      })
+
+-- what a name owns of a type neither before nor after
+pub record OwnsNone (sets : Sets) (entries : List Entry) (name : DomainName) (t : ℕ) : Type 0 where
+  pub before : rrset (shared_sets entries) name t ≡ None
+  pub after : rrset sets name t ≡ None
+
+module _ (r : Record RData) (rest : Records) (origin : DomainName) (sets : Sets) (old new : IndexedSets) (servers addresses : Bool) (name : DomainName) (is : name ≡ lower_name r.name)
+    (ns : servers ≡ true → (old.has_servers ≡ true) × OwnsNone sets old.entries name 2)
+    (ad : addresses ≡ true → (old.has_addresses ≡ true) × OwnsNone sets old.entries name 1 × OwnsNone sets old.entries name 28)
+    (m : Marks (nameless name) (record old { has_servers = servers; has_addresses = addresses }) new) (of : IsIndexBut (r ∷ rest) origin sets old) where
+  abbrev mid : IndexedSets
+  mid = record old { has_servers = servers; has_addresses = addresses }
+
+  named : (n : DomainName) → is_at n r ≡ true → name_eq n name ≡ true
+  named n e = ap (name_eq n) is ∙ names.congr n r.name (lower_name r.name) e ∙ names.symm r.name (lower_name r.name) ∙ lower_own r.name
+
+  none_still : (n : DomainName) (t : ℕ) → is_at n r ≡ true → OwnsNone sets old.entries name t → rrset sets n t ≡ rrset (shared_sets old.entries) n t
+  none_still n t e none =
+      lookup_alike n name t (named n e) sets ∙ none.after ∙ sym (lookup_alike n name t (named n e) (shared_sets old.entries) ∙ none.before)
+
+  by_name : (n : DomainName) (t : ℕ) (b : Bool) → is_at n r ≡ b → (b ≡ true → rrset sets n t ≡ rrset (shared_sets old.entries) n t)
+      → (list_any (is_at n) (r ∷ rest) ≡ false → rrset sets n t ≡ rrset (shared_sets old.entries) n t) → list_any (is_at n) rest ≡ false → rrset sets n t ≡ rrset (shared_sets old.entries) n t
+  by_name n t true e own other none = own refl
+  by_name n t false e own other none = other (second (is_at n r) (list_any (is_at n) rest) e none)
+
+  -- one record more
+  pub marked_on : IsIndexBut rest origin sets new
+  marked_on =
+      subst (IsIndexBut rest origin sets) (sym m.new_is) (record {
+        apex = of.apex;
+        whole = λ w. absurd (let no : false ≡ true = w in cc);
+        unmarked = λ n t none u.
+            let v = subst (λ (i : IndexedSets). IsUnmarked i (nameless n)) (sym m.new_is) u in
+            let w = was_unmarked (nameless name) mid new m (nameless n) v in
+            by_name n t (is_at n r) refl
+            (λ e. absurd (other_key (nameless name) mid new m (nameless n) v (equal_keys name n (names.symm name n ∙ named n e))))
+            (λ none. of.unmarked n t none (record { place = w.place; is = w.is; within = w.within; unmarked = w.unmarked })) none;
+        servers = λ n none has. by_name n 2 (is_at n r) refl (λ e. none_still n 2 e (ns has).1) (λ none. of.servers n none (ns has).0) none;
+        four = λ n none has. by_name n 1 (is_at n r) refl (λ e. none_still n 1 e (ad has).1) (λ none. of.four n none (ad has).0) none;
+        six = λ n none has. by_name n 28 (is_at n r) refl (λ e. none_still n 28 e (ad has).2) (λ none. of.six n none (ad has).0) none;
+      })
+
+-- ---- cuts and glue of the zone as it is
+
+module _ (origin : DomainName) (one other : Sets) (servers : (n : DomainName) → rrset other n 2 ≡ rrset one n 2) where
+  cut_there : (n : DomainName) → IsCut (record { origin = origin; sets = one }) n → IsCut (record { origin = origin; sets = other }) n
+  cut_there n cut = record { within = cut.within; below_apex = cut.below_apex; servers = subst (λ (o : Option Records). IsSome o) (sym (servers n)) cut.servers }
+
+  cut_here : (n : DomainName) → IsCut (record { origin = origin; sets = other }) n → IsCut (record { origin = origin; sets = one }) n
+  cut_here n cut = record { within = cut.within; below_apex = cut.below_apex; servers = subst (λ (o : Option Records). IsSome o) (servers n) cut.servers }
+
+  pub cut_moves : (name : DomainName) (found : Option Records) → CutAbove (record { origin = origin; sets = one }) name found → CutAbove (record { origin = origin; sets = other }) name found
+  cut_moves name None none = λ k some cut. none k some (cut_here (ancestor name k) cut)
+  cut_moves name (Some rs) ends = record {
+    off = ends.off;
+    above = ends.above;
+    delegates = record { cut = cut_there (ancestor name ends.off) ends.delegates.cut; highest = λ j less cut. ends.delegates.highest j less (cut_here (ancestor name j) cut) };
+    servers = servers (ancestor name ends.off) ∙ ends.servers;
+  }
+
+module _ (origin : DomainName) (one other : Sets) (four : (n : DomainName) → rrset other n 1 ≡ rrset one n 1) (six : (n : DomainName) → rrset other n 28 ≡ rrset one n 28) where
+  gains_move : (present : Records) (n : DomainName) (t : ℕ) (rs : Records) → rrset other n t ≡ rrset one n t → Gains source.Glue (record { origin = origin; sets = one }) present n t rs
+      → Gains source.Glue (record { origin = origin; sets = other }) present n t rs
+  gains_move present n t rs same (stands_already there) = stands_already there
+  gains_move present n t rs same (is_added none had) = is_added none (had ∙ ap some_records (sym same))
+
+  gains_for : (present : Records) (content : RData) (rs : Records) → GainsFor source.Glue (record { origin = origin; sets = one }) present content rs → GainsFor source.Glue (record { origin = origin; sets = other }) present content rs
+  gains_for present content rs (no_host none) = no_host none
+  gains_for present content rs (host {four = a} {six = b} {name = n} is first next) =
+      host is (gains_move present (lower_name n) 1 a (four (lower_name n)) first) (gains_move (present ++ a) (lower_name n) 28 b (six (lower_name n)) next)
+
+  glue_moves : (present naming gained : Records) → AreAdditionals source.Glue (record { origin = origin; sets = one }) present naming gained → AreAdditionals source.Glue (record { origin = origin; sets = other }) present naming gained
+  glue_moves present naming gained no_record = no_record
+  glue_moves present naming gained (record_by {gained = by_one} {rest = rest} {naming = others} {r = r} gains more) =
+      record_by (gains_for present r.rdata by_one gains) (glue_moves (present ++ by_one) others rest more)
+
+  some_glue : (servers : Records) (told : Option Records) → IfSome told (AreAdditionals source.Glue (record { origin = origin; sets = one }) [] servers)
+      → IfSome told (AreAdditionals source.Glue (record { origin = origin; sets = other }) [] servers)
+  some_glue servers None h = tt
+  some_glue servers (Some rs) h = glue_moves [] servers rs h
+
+  pub glue_moves_on : (cut : Option Cut) → IfSome cut (HasGlue (record { origin = origin; sets = one })) → IfSome cut (HasGlue (record { origin = origin; sets = other }))
+  glue_moves_on None h = tt
+  glue_moves_on (Some cut) h = some_glue cut.servers.now (option_copied cut.glue) h

@@ -1,3 +1,0 @@
-pub mod CrashLemmas
-pub mod FileLemmas
-pub mod Owed

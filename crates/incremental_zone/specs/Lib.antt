@@ -1,2 +1,0 @@
-pub mod IncrementalZones
-pub mod Versions

@@ -1,0 +1,10 @@
+pub mod Endings
+pub mod Errors
+pub mod Frames
+pub mod Generations
+pub mod JournalFile
+pub mod JournalState
+pub mod Read
+pub mod Recovery
+pub mod Settled
+pub mod host_file

@@ -1,5 +1,0 @@
-pub mod AngleWords
-pub mod DecimalOnce
-pub mod SameLocation
-pub mod SizeOctets
-pub mod SizeWords

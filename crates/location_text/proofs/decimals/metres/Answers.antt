@@ -1,4 +1,0 @@
-use Rattle.location_text.proofs.decimals.metres.Goals as goal
-
-pub returns-clause-none : goal.returns-clause-none
-returns-clause-none c = rw c.without_metres.ensures at c.decimal.ensures.none

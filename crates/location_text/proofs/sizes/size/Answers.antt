@@ -1,4 +1,0 @@
-use Rattle.location_text.proofs.sizes.size.Goals as goal
-
-pub returns-in-None-clause-refused : goal.returns-in-None-clause-refused
-returns-in-None-clause-refused c = λ octet is. c.in-None.ensures.none octet is.1

@@ -1,4 +1,0 @@
-mod HeldZones
-mod Rules
-mod Searching
-mod Served

@@ -1,0 +1,10 @@
+-- The chain that is kept for the apex is that of the zone.
+use Rattle.std.proofs.Common.{◌≡◌, rules}
+use Rattle.served_zones.proofs.RuledZones.{kept_takes}
+use Rattle.served_zones.proofs.journals.open_journal.Goals as goal
+
+pub returns-in-Some-clause-refused : goal.returns-in-Some-clause-refused
+returns-in-Some-clause-refused g c = λ none.
+    let same : c.open_in_chain.new.chain.items ≡ c.in-Some.chain.now.items =
+    c.open_in_chain.ensures.refused (λ has. none (kept_takes c.args.zones.now.zones c.args.apex.now c.in-Some.chain.now.items c.in-Some.ensures.value has)) in
+    search rules

@@ -1,4 +1,0 @@
-pub mod Ascending
-pub mod ItemSteps
-pub mod Once
-pub mod WordSteps

@@ -1,5 +1,0 @@
-use Rattle.service_text.proofs.ItemSteps.{Left}
-use Rattle.service_text.proofs.items.item_end.Given as goal
-
-abbrev pub invariant-loop-end : goal.invariant-loop-end
-invariant-loop-end l = Left l.text l.start l.end l.is_escaped

@@ -1,0 +1,6 @@
+-- Each half has fewer answers.
+use Rattle.std.proofs.Common.{length}
+use Rattle.signed_server.proofs.parts.+put_parts.Given as goal
+
+abbrev pub decreases-put_parts : goal.decreases-put_parts
+decreases-put_parts l = length l.answers.now

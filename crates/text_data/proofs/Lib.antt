@@ -1,0 +1,9 @@
+pub mod AngleWords
+pub mod Ascending
+pub mod DecimalOnce
+pub mod ItemSteps
+pub mod Once
+pub mod SameLocation
+pub mod SizeOctets
+pub mod SizeWords
+pub mod WordSteps

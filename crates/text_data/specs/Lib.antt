@@ -1,0 +1,2 @@
+pub mod LocationText
+pub mod ServiceText

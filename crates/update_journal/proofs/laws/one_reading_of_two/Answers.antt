@@ -1,6 +1,0 @@
--- One reading of each.
-use Rattle.update_journal.proofs.Pairs.{one_of_two}
-use Rattle.update_journal.proofs.laws.one_reading_of_two.Goals as goal
-
-pub returns : goal.returns
-returns c = one_of_two

@@ -1,9 +1,0 @@
-pub mod Endings
-pub mod Errors
-pub mod Frames
-pub mod Generations
-pub mod JournalFile
-pub mod JournalState
-pub mod Read
-pub mod Recovery
-pub mod Settled

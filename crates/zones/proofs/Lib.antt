@@ -1,0 +1,10 @@
+pub mod FeaturesStay
+pub mod Followed
+pub mod Following
+pub mod GivenTransfers
+pub mod KeptOverviews
+pub mod MadeUpdates
+pub mod NamesStay
+pub mod OwnerNames
+pub mod OwnersStay
+pub mod RrsetsStay

@@ -1,0 +1,10 @@
+-- In the zone as its updates left it.
+use Rattle.std.proofs.Common.{subst, sym}
+use Rattle.hickory_store.specs.updates.UpdatableZone.{UpdatableZone}
+use Rattle.zones.specs.Overviews.{IsOverview}
+use Rattle.zones.proofs.handler.ZoneZoneHandler.search.Goals as goal
+
+pub search-requires : goal.search-requires
+search-requires g c =
+    subst (λ z. IsOverview z c.self.inside.overview) (sym c.in_memory-zone.ensures)
+    (subst (λ (u : UpdatableZone g.row.V.Denot). IsOverview u.zone c.self.inside.overview) (sym c.updatable.ensures) c.self.invariant)

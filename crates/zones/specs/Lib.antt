@@ -1,0 +1,10 @@
+pub mod Journals
+pub mod KeptZones
+pub mod Laws
+pub mod Overviews
+pub mod Owners
+pub mod Versions
+pub mod ZoneQueries
+pub mod ZoneStates
+pub mod ZoneTransfers
+pub mod ZoneUpdates
