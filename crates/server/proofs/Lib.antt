@@ -1,5 +1,6 @@
 pub mod Counted
 pub mod Results
+pub mod Runs
 pub mod Streams
 pub mod Whole
 pub mod Written

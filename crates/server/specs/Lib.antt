@@ -8,6 +8,7 @@ pub mod Limited
 pub mod Lists
 pub mod Logged
 pub mod Networks
+pub mod Run
 pub mod Serving
 pub mod Settings
 pub mod Updates

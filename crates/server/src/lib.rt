@@ -9,6 +9,7 @@ pub mod counting;
 pub mod frames;
 pub mod handle;
 pub mod journals;
+pub mod laws;
 pub mod limiting;
 pub mod logging;
 pub mod service;

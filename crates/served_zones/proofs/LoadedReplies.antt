@@ -1,0 +1,202 @@
+-- What a server of zones that are as they were loaded replies to a query.
+use Rattle.std.proofs.Common.{◌≡◌, ◌⊎◌, ◌∙◌, inl, inr, ℕ, true, false, List, [], ◌∷◌, Option, Some, None, Result, Ok, Err, refl, sym, ap, subst, arith}
+use Rattle.std.specs.Prelude.{◌==◌, Contains}
+use Rattle.std.specs.List.{AllZip}
+use Rattle.std.proofs.lemmas.Bool.{false≢true, ne_eqb}
+use Rattle.std.proofs.lemmas.List.Elements.{All-contains}
+use Rattle.either.specs.declared.Either.TheVariants.{Left}
+use Rattle.wire_names.specs.rr.domain.DomainName.{DomainName}
+use Rattle.wire_messages.specs.Numbers.{opcode_query, opcode_update, type_axfr}
+use Rattle.wire_messages.specs.op.EdnsFields.{EdnsFields}
+use Rattle.wire_messages.specs.serialize.writing.Reply.{Reply}
+use Rattle.wire_messages.specs.declared.op.query.Query.{Query}
+use Rattle.wire_messages.specs.declared.protocol.Protocol.{Protocol}
+use Rattle.wire_messages.specs.declared.protocol.Protocol.TheVariants as protocols
+use Rattle.wire_names.specs.declared.error.DecodeError.{DecodeError}
+use Rattle.wire_reading.specs.serialize.reading.MessageReading.{Fault, Reads}
+use Rattle.wire_reading.specs.declared.op.message.Message.{Message}
+use Rattle.hickory_base.specs.requests.Questions.{one_query}
+use Rattle.hickory_base.specs.requests.RequestReading.{message_of}
+use Rattle.hickory_base.specs.requests.Requests.{ReceivedRequest}
+use Rattle.hickory_base.specs.responses.EncodingSinks.{IsEncodingOf}
+use Rattle.hickory_base.specs.zone_store.Lookups.{Flow, SignerContext}
+use Rattle.hickory_base.specs.zone_store.ZoneAnswers.{MemoryZone}
+use Rattle.hickory_base.specs.declared.errors.LookupError.{LookupError}
+use Rattle.hickory_base.specs.declared.errors.LookupError.TheVariants.{Memory}
+use Rattle.hickory_base.specs.declared.requests.message_request.MessageRequest.{MessageRequest}
+use Rattle.hickory_base.specs.declared.zone_store.handler.NxProofKind.{NxProofKind}
+use Rattle.hickory_base.specs.declared.zone_store.handler.ZoneHandler.{Ghosts}
+use Rattle.hickory_base.specs.declared.zone_store.lookup.LookupOptions.{LookupOptions}
+use Rattle.hickory_catalog.specs.queries.Queries.{HandlerReply, QueryReplies, ZoneReply, is_out_of_memory}
+use Rattle.hickory_catalog.specs.replies.Replies.{Contents, unsigned_reply}
+use Rattle.hickory_catalog.specs.replies.ReplyEdns.{reply_edns}
+use Rattle.hickory_catalog.specs.replies.Signing.{Signer}
+use Rattle.hickory_catalog.specs.requests.Requests.{RequestAnswered}
+use Rattle.hickory_catalog.specs.requests.Requests as requests
+use Rattle.hickory_catalog.specs.requests.Server.{Server, server_of}
+use Rattle.hickory_catalog.specs.zones.Zones.{ZoneChains}
+use Rattle.hickory_catalog.specs.declared.catalog.Catalog.{Catalog}
+use Rattle.hickory_server.proofs.lemmas.server.Above.{one_question}
+use Rattle.hickory_server.proofs.lemmas.server.Refusals.{looked_into, one_encoded, one_is}
+use Rattle.hickory_server.proofs.lemmas.zone_handler.MadeReplies.{made}
+use Rattle.hickory_server.specs.server.Ruling.{IsIncremental, IsOfServedClass, IsQuery, IsRefusedUpdate, IsRuling, IsTransfer, MayTransfer, udp_limit}
+use Rattle.hickory_server.specs.server.ServedBy.{AreSent, IsBounded, ServedBy}
+use Rattle.hickory_server.specs.server.ServedLaws.{IsLetThrough, IsSent, LetThroughSteps}
+use Rattle.hickory_server.specs.server.Serving.{IsRequestOf, Step}
+use Rattle.hickory_server.specs.server.Serving as serving
+use Rattle.hickory_server.specs.zone_handler.ZoneReplies.{SaysTheReply}
+use Rattle.hickory_server.specs.declared.server.answer.Answer.{Answer}
+use Rattle.hickory_server.specs.declared.server.answer.Answer.TheVariants.{Replies}
+use Rattle.hickory_server.specs.declared.server.rules.Rules.{Rules}
+use Rattle.hickory_server.specs.declared.server.rules.Ruling.TheVariants.{Pass}
+use Rattle.hickory_server.specs.declared.server.serve.Incoming.{Incoming}
+use Rattle.hickory_server.specs.declared.server.serve.Outcome.{Outcome}
+use Rattle.hickory_server.specs.declared.server.serve.Outcome.TheVariants as outcomes
+use Rattle.hickory_zone.specs.Handled as handled
+use Rattle.hickory_zone.specs.Zones.{AreOwners}
+use Rattle.served_zones.proofs.LoneHandlers.{Found, IsOne, IsSaid, by_nearest, by_nobody, query_replied, replied_alone}
+use Rattle.served_zones.specs.LoadedZones.{AreLoaded, IsLoadedChain, IsPlainQuery, IsSaidBy, IsSentAlone, LoadedZonesReply, by_none, by_zone}
+use Rattle.served_zones.specs.ServedZones.{ServedHandler, loaded}
+use Rattle.zones.specs.Laws.{OwnedZonesAreLookedUp}
+use Rattle.zones.specs.ZoneQueries.{IsAnswered, LookedUp, Searched, SearchedFor, failed, replied}
+
+-- ---- what the rules make of the query
+
+query_as : (m n : MessageRequest) (query : Query) → message_of m ≡ message_of n → IsQuery m query → IsQuery n query
+query_as m n query same is = record {
+  version = rw (← ap (λ (x : Message). x.edns) same) is.version;
+  asks = rw (← ap (λ (x : Message). x.metadata) same) is.asks;
+  op_code = rw (← ap (λ (x : Message). x.metadata) same) is.op_code;
+  question = rw (← ap (λ (x : Message). x.queries) same) is.question;
+}
+
+no_update : (m : MessageRequest) (query zone : Query) → IsQuery m query → IsRefusedUpdate m zone → ⊥
+no_update m query zone is update =
+    let no : opcode_query ≡ opcode_update = sym is.op_code ∙ update.0.0.op_code in omega (arith, no)
+
+module _ (same : (bytes : List ℕ) (m n : Message) → Reads bytes m → Reads bytes n → m ≡ n) (rules : Rules) (message : Incoming) (question : Query) (plain : IsPlainQuery rules message question) where
+  -- however the message is read, it is this query
+  read_so : (r : ReceivedRequest) → IsRequestOf message r → IsQuery r.message question
+  read_so r is =
+      query_as plain.request.message r.message question
+      (same message.bytes.items (message_of plain.request.message) (message_of r.message) plain.is_request.reads is.reads) plain.is_query
+
+  passes : (r : ReceivedRequest) → IsRequestOf message r → IsRuling rules r Pass
+  passes r is = (λ query asks. of_query query (one_question r.message query question asks (read_so r is)), λ zone update. no_update r.message question zone (read_so r is) update) where
+    of_query : (query : Query) → query ≡ question → IsOfServedClass query × ¬ (IsIncremental query) × (IsTransfer query → MayTransfer rules r × ¬ (r.protocol ≡ protocols.Udp))
+    of_query query one =
+        subst (λ (q : Query). IsOfServedClass q × ¬ (IsIncremental q) × (IsTransfer q → MayTransfer rules r × ¬ (r.protocol ≡ protocols.Udp))) (sym one)
+        (inl plain.class, λ incremental. plain.no_transfer (inr incremental), λ transfer. absurd (plain.no_transfer transfer))
+
+  pub let_through : {V : Type 0} (zones : List (DomainName × V)) → IsLetThrough rules zones message
+  let_through {V} zones = record {
+    whole = plain.whole;
+    no_response = plain.no_response;
+    passes = passes;
+    not_above = λ r is zone asked.
+        let one : asked.asks.query ≡ question = one_question r.message asked.asks.query question asked.asks.is_query (read_so r is) in
+        plain.no_ds (sym (ap (λ (q : Query). q.query_type) one) ∙ asked.asks.is_ds);
+  }
+
+-- ---- the zones
+
+-- one reply is sent as one message
+one_sent : (protocol : Protocol) (limit : ℕ) (reply : List ℕ) (sent : List (List ℕ)) → AreSent protocol limit (reply ∷ []) sent → (bytes : List ℕ) × (sent ≡ bytes ∷ [])
+one_sent protocols.Udp limit reply [] are = absurd are
+one_sent protocols.Udp limit reply (bytes ∷ []) are = (bytes, refl)
+one_sent protocols.Udp limit reply (bytes ∷ other ∷ others) are = absurd are.1
+one_sent protocols.Tcp limit reply sent are = (reply, are)
+one_sent protocols.Tls limit reply sent are = (reply, are)
+one_sent protocols.Https limit reply sent are = (reply, are)
+one_sent protocols.Quic limit reply sent are = (reply, are)
+one_sent protocols.H3 limit reply sent are = (reply, are)
+
+-- a chain of a zone as it is loaded, which says this to a question
+abbrev Says : ReceivedRequest → Query → DomainName × List ServedHandler → Contents → Type 0
+Says r question served contents = (zone : MemoryZone) × (served.1 ≡ Left (loaded zone) ∷ []) × SaysTheReply zone r question contents
+
+module _ (handler : Ghosts ServedHandler)
+    (searches : (zone : MemoryZone) (r : ReceivedRequest) (options : LookupOptions) (flow : Flow) (context : SignerContext) → handler.search_gives (Left (loaded zone)) r options flow context → Searched zone r flow × (context ≡ None))
+    (type : (zone : MemoryZone) → handler.zone_type_of (Left (loaded zone)) ≡ zone.zone_type)
+    (no_proofs : (zone : MemoryZone) → handler.nx_proof_kind_of (Left (loaded zone)) ≡ None)
+    (looks : (zone : MemoryZone) (options : LookupOptions) (flow : Flow) → handler.lookup_gives (Left (loaded zone)) (handler.origin_of (Left (loaded zone))) 6 None options flow → LookedUp zone zone.origin 6 flow)
+    (owned : OwnedZonesAreLookedUp) where
+  -- what the zone gives for the question, and what the catalog makes of it
+  abbrev Stands : MemoryZone → Query → Found → Type 0
+  Stands zone question result = IsAnswered zone question result ⊎ (result ≡ Err Memory)
+
+  gives : (zone : MemoryZone) (r : ReceivedRequest) (question : Query) → one_query r.message.queries.queries ≡ Ok question → (options : LookupOptions) (flow : Flow) (context : SignerContext)
+      → handler.search_gives (Left (loaded zone)) r options flow context → (result : Found) × Stands zone question result × (flow ≡ Continue result) × (context ≡ None)
+  gives zone r question one options flow context gave =
+      let s = searches zone r options flow context gave in
+      let found : SearchedFor zone (Ok question) flow = subst (λ (q : Result Query LookupError). SearchedFor zone q flow) one s.0 in
+      (found.0, found.1, found.2, s.1)
+
+  said : (zone : MemoryZone) (r : ReceivedRequest) (question : Query) → AreOwners zone.origin zone.sets → (result : Found) (contents : Contents) → Stands zone question result → is_out_of_memory result ≡ false
+      → HandlerReply handler (Left (loaded zone)) (handler.zone_type_of (Left (loaded zone))) (record { request = r; query = question }) result contents → SaysTheReply zone r question contents
+  said zone r question owners result contents (inl (replied _ stands)) in_memory reply =
+      made handler (Left (loaded zone)) zone (no_proofs zone) (λ options flow looked. owned zone zone.origin 6 flow owners (looks zone options flow looked)) r question contents result stands
+      (subst (λ t. HandlerReply handler (Left (loaded zone)) t (record { request = r; query = question }) result contents) (type zone) reply)
+  said zone r question owners result contents (inl (failed not _)) in_memory reply = absurd (not owners)
+  said zone r question owners result contents (inr none) in_memory reply = absurd (false≢true (sym in_memory ∙ ap is_out_of_memory none))
+
+  module _ {S : Type 0} (signature_for : S → Signer) (steps : LetThroughSteps handler signature_for) (same : (bytes : List ℕ) (m n : Message) → Reads bytes m → Reads bytes n → m ≡ n)
+      (no_fault : (bytes : List ℕ) (m : Message) (e : DecodeError) → Reads bytes m → Fault bytes e → ⊥) where
+    module _ (catalog : Catalog S ServedHandler) (are : AreLoaded catalog.zones) (r : ReceivedRequest) (question : Query) (is : IsQuery r.message question) (no_transfer : (question.query_type == type_axfr) ≡ false) (now : ℕ) where
+      abbrev server : Server ServedHandler
+      server = server_of handler signature_for catalog
+
+      abbrev edns : Option EdnsFields
+      edns = reply_edns catalog.nsid r.message.edns
+
+      asks : one_query r.message.queries.queries ≡ Ok question
+      asks = one_is r.message opcode_query question is
+
+      by_chain : (served : DomainName × List ServedHandler) → Contains catalog.zones served → (reply : Reply) → ZoneReply server served.1 (record { request = r; query = question }) edns now reply
+          → (contents : Contents) × Says r question served contents × (reply ≡ unsigned_reply r.message edns contents)
+      by_chain served among reply replies =
+          let l : IsLoadedChain served.1 = All-contains (λ (s : DomainName × List ServedHandler). IsLoadedChain s.1) catalog.zones served are among in
+          let here = subst (λ (chain : List ServedHandler). ZoneReply server chain (record { request = r; query = question }) edns now reply) l.1 replies in
+          let m = replied_alone server (Left (loaded l.0)) r question (Stands l.0 question) (SaysTheReply l.0 r question) (gives l.0 r question asks) (said l.0 r question l.2) edns now reply no_transfer here in
+          (m.0, (l.0, l.1, m.1), m.2)
+
+      abbrev One : List Reply → Type 0
+      One replies = (contents : Contents) × IsSaidBy catalog.zones r question contents × (replies ≡ unsigned_reply r.message edns contents ∷ [])
+
+      by_nearest_zone : (contents : Contents) → IsSaid server r question (Says r question) contents → IsSaidBy catalog.zones r question contents
+      by_nearest_zone contents (by_nobody none is) = by_none none is
+      by_nearest_zone contents (by_nearest zone nearest (memory, chain, says)) = by_zone nearest chain says
+
+      answered : (replies : List Reply) (after : ZoneChains ServedHandler) → RequestAnswered server r now replies after → One replies
+      answered replies after (requests.refused fault _ _) = let fine = looked_into r.message question is in absurd cc
+      answered replies after (requests.updates _ op _) = let code = is.op_code in absurd cc
+      answered replies after (requests.asks _ _ query) =
+          let one = query_replied server r question edns now (Says r question) asks no_transfer by_chain replies query.are_replies in
+          (one.0, by_nearest_zone one.0 one.1, one.2)
+
+    pub reply : LoadedZonesReply handler signature_for
+    reply rules catalog message question answer after are plain served = by step.1 step.2 where
+      step : (outcome : Outcome) × Step rules.access (server_of handler signature_for catalog) message outcome after × IsSent message (udp_limit rules) outcome answer
+      step = steps rules catalog message answer after (let_through same rules message question plain catalog.zones) served
+
+      by : {outcome : Outcome} → Step rules.access (server_of handler signature_for catalog) message outcome after → IsSent message (udp_limit rules) outcome answer
+          → (request : ReceivedRequest) × IsRequestOf message request × (contents : Contents)
+          × IsSaidBy catalog.zones request question contents × IsSentAlone rules catalog.nsid message request contents answer
+      by (serving.denied refuses _ _) sent = absurd (refuses plain.may_use)
+      by (serving.unreadable _ fault _ _) sent = absurd (no_fault message.bytes.items (message_of plain.request.message) fault.fault plain.is_request.reads fault.first)
+      by (serving.handled {request = r} {replies = replies} {encoded = encoded} _ is replied encodes told) sent =
+          let asked = read_so same rules message question plain r is in
+          let a = answered catalog are r question asked (ne_eqb question.query_type type_axfr (λ axfr. plain.no_transfer (inl axfr))) message.now replies after replied in
+          let one = one_encoded message.protocol replies (unsigned_reply r.message (reply_edns catalog.nsid r.message.edns) a.0) encoded a.2 encodes in
+          let s : (bytes : List (List ℕ)) × AreSent message.protocol (udp_limit rules) encoded bytes × (answer ≡ Replies bytes) = subst (λ (o : Outcome). IsSent message (udp_limit rules) o answer) told sent in
+          let leaves = subst (λ (e : List (List ℕ)). AreSent message.protocol (udp_limit rules) e s.0) one.1 s.1 in
+          let alone = one_sent message.protocol (udp_limit rules) one.0 s.0 leaves in (
+            r, is, a.0, a.1,
+            record {
+              encoded = one.0;
+              encodes = one.2;
+              bytes = alone.0;
+              sent = subst (λ (b : List (List ℕ)). AreSent message.protocol (udp_limit rules) (one.0 ∷ []) b) alone.1 leaves;
+              answer_is = s.2 ∙ ap (λ (b : List (List ℕ)). let told : Answer = Replies b in told) alone.1;
+            },
+          )

@@ -1,0 +1,116 @@
+-- What a catalog replies to a query from zones of one handler each, which always gives an answer.
+use Rattle.std.proofs.Common.{◌≡◌, ◌⊎◌, inl, inr, ◌∙◌, ℕ, true, false, List, [], ◌∷◌, Option, Some, None, Result, Ok, Err, refl, sym, ap, ap₂, subst}
+use Rattle.std.specs.Prelude.{◌==◌, Contains, slice_get}
+use Rattle.std.specs.List.{remove}
+use Rattle.std.proofs.lemmas.Bool.{false≢true}
+use Rattle.wire_names.specs.rr.domain.DomainName.{DomainName}
+use Rattle.wire_names.specs.rr.domain.NameOrder.{lower_name}
+use Rattle.wire_messages.specs.Numbers.{code_refused, type_axfr}
+use Rattle.wire_messages.specs.op.EdnsFields.{EdnsFields}
+use Rattle.wire_messages.specs.serialize.writing.Reply.{Reply}
+use Rattle.wire_messages.specs.declared.op.query.Query.{Query}
+use Rattle.hickory_base.specs.requests.Questions.{one_query}
+use Rattle.hickory_base.specs.requests.Requests.{ReceivedRequest, RequestInformation, information}
+use Rattle.hickory_base.specs.zone_store.Lookups.{Flow, SignerContext, result_of}
+use Rattle.hickory_base.specs.declared.errors.LookupError.{LookupError}
+use Rattle.hickory_base.specs.declared.zone_store.handler.ZoneHandler.{Ghosts}
+use Rattle.hickory_base.specs.declared.zone_store.lookup.AuthLookup.{AuthLookup}
+use Rattle.hickory_base.specs.declared.zone_store.lookup.LookupControlFlow.TheVariants.{Continue, Skip}
+use Rattle.hickory_base.specs.declared.zone_store.lookup.LookupOptions.{LookupOptions}
+use Rattle.hickory_catalog.specs.queries.Queries.{AskedQuery, HandlerReply, QueryReplies, ZoneReplies, ZoneReply, consult_options, is_out_of_memory}
+use Rattle.hickory_catalog.specs.queries.Queries as queries
+use Rattle.hickory_catalog.specs.queries.Transcripts.{Asked, ChainAnswers, Consulted, Follows, Given, all_consulted, answered, options_of, out_of_memory, skipped}
+use Rattle.hickory_catalog.specs.replies.Replies.{Contents, error_contents, error_reply, unsigned_reply}
+use Rattle.hickory_catalog.specs.replies.Signing.{IsSigned, SignedReply, Signer, plain}
+use Rattle.hickory_catalog.specs.requests.Server.{Server}
+use Rattle.hickory_catalog.specs.zones.Find.{Finds, IsNearest}
+
+abbrev Found : Type 0
+Found = Result AuthLookup LookupError
+
+-- what a handler gives that answers, with nothing for a signer
+abbrev given_of : Found → Given
+given_of result = (Continue result, None)
+
+-- a reply without a context has no signature
+unsigned_of : {signer : Signer} {failure unsigned reply : Reply} → IsSigned signer failure unsigned reply None → reply ≡ unsigned
+unsigned_of (plain is) = is
+
+consulted_by_none : {H : Type 0} (handler : Ghosts H) (info : RequestInformation) (options : LookupOptions) (given final : Given) → Consulted handler info options [] given final → final ≡ given
+consulted_by_none handler info options given final all_consulted = refl
+consulted_by_none handler info options given final (out_of_memory wants) = refl
+
+-- a handler that answers this request, with a result that stands for what it means
+module _ {H : Type 0} (handler : Ghosts H) (h : H) (r : ReceivedRequest) (Stands : Found → Type 0)
+    (gives : (options : LookupOptions) (flow : Flow) (context : SignerContext) → handler.search_gives h r options flow context → (result : Found) × Stands result × (flow ≡ Continue result) × (context ≡ None)) where
+  asked_alone : (options : LookupOptions) (place : ℕ) (given : Given) → Asked handler r options (h ∷ []) place given → (place ≡ 0) × (result : Found) × Stands result × (given ≡ given_of result)
+  asked_alone options place given (skipped {dropped = dropped} skips rest) =
+      let g = gives options Skip dropped skips in
+      let no : ◌≡◌ {A = Flow} Skip (Continue g.0) = g.2 in absurd cc
+  asked_alone options place given (answered is gave) =
+      let g = gives options given.0 given.1 gave in
+      (refl, g.0, g.1, ap₂ (λ (flow : Flow) (context : SignerContext). let both : Given = (flow, context) in both) g.2 g.3)
+
+  chain_alone : (info : RequestInformation) (options : LookupOptions) (final : _) → ChainAnswers handler r info options (h ∷ []) final
+      → (final.place ≡ 0) × (result : Found) × Stands result × (final.given ≡ given_of result)
+  chain_alone info options final answers =
+      let a = asked_alone (options_of r) final.place answers.given answers.asked in
+      let first = subst (λ (place : ℕ). Follows handler info options (remove (h ∷ []) place) answers.given final.given) a.0 answers.followed in
+      let then : Consulted handler info options [] (given_of a.1) final.given = subst (λ (given : Given). Follows handler info options [] given final.given) a.3 first in
+      (a.0, a.1, a.2, consulted_by_none handler info options (given_of a.1) final.given then)
+
+-- what is replied from the zone that only has this handler
+module _ {H : Type 0} (server : Server H) (h : H) (r : ReceivedRequest) (question : Query) (Stands : Found → Type 0) (Says : Contents → Type 0)
+    (gives : (options : LookupOptions) (flow : Flow) (context : SignerContext) → server.handler.search_gives h r options flow context → (result : Found) × Stands result × (flow ≡ Continue result) × (context ≡ None))
+    (made : (result : Found) (contents : Contents) → Stands result → is_out_of_memory result ≡ false
+      → HandlerReply server.handler h (server.handler.zone_type_of h) (record { request = r; query = question }) result contents → Says contents) where
+  pub replied_alone : (edns : Option EdnsFields) (now : ℕ) (reply : Reply) → (question.query_type == type_axfr) ≡ false
+      → ZoneReply server (h ∷ []) (record { request = r; query = question }) edns now reply → (contents : Contents) × Says contents × (reply ≡ unsigned_reply r.message edns contents)
+  replied_alone edns now reply no_transfer (queries.untransferred transfer _ _) = absurd (false≢true (sym no_transfer ∙ transfer))
+  replied_alone edns now reply no_transfer (queries.unanswered {final = final} _ answers none is) =
+      let a = chain_alone server.handler h r Stands gives (information r question) (consult_options edns) final answers in
+      let some : result_of final.given.0 ≡ Some a.1 = ap (λ (given : Given). result_of given.0) a.3 in
+      let no : ◌≡◌ {A = Option Found} None (Some a.1) = sym none ∙ some in absurd cc
+  replied_alone edns now reply no_transfer (queries.lookup {h = other} {final = final} {result = result} contents _ answers gave at in_memory handled signed) =
+      let a = chain_alone server.handler h r Stands gives (information r question) (consult_options edns) final answers in
+      let both : ◌≡◌ {A = Option Found} (Some a.1) (Some result) = sym (ap (λ (given : Given). result_of given.0) a.3) ∙ gave in
+      let one : a.1 ≡ result = cc in
+      let here : ◌≡◌ {A = Option H} (Some h) (Some other) = subst (λ (place : ℕ). slice_get (h ∷ []) place ≡ Some other) a.0 at in
+      let same : other ≡ h = cc in
+      let no_context : final.given.1 ≡ None = ap (λ (given : Given). given.1) a.3 in (
+        contents,
+        made result contents (subst Stands one a.2) in_memory
+        (subst (λ (k : H). HandlerReply server.handler k (server.handler.zone_type_of k) (record { request = r; query = question }) result contents) same handled),
+        unsigned_of (subst (λ (context : SignerContext). SignedReply server.signer r.message edns contents context reply) no_context signed),
+      )
+
+-- What the reply to a query says: REFUSED, if no zone answers for its name; or what the nearest zone replies.
+pub data IsSaid {H : Type 0} (server : Server H) (r : ReceivedRequest) (question : Query) (Says : DomainName × List H → Contents → Type 0) (contents : Contents) : Type 0 where
+  by_nobody : Finds server.zones (lower_name question.name) None → contents ≡ error_contents r.message.metadata code_refused → IsSaid server r question Says contents
+  by_nearest : (zone : DomainName × List H) → IsNearest server.zones (lower_name question.name) zone → Says zone contents → IsSaid server r question Says contents
+
+-- The replies are one that says this.
+abbrev pub IsOne : {H : Type 0} → Server H → ReceivedRequest → Query → Option EdnsFields → (DomainName × List H → Contents → Type 0) → List Reply → Type 0
+IsOne server r question edns Says replies = (contents : Contents) × IsSaid server r question Says contents × (replies ≡ unsigned_reply r.message edns contents ∷ [])
+
+module _ {H : Type 0} (server : Server H) (r : ReceivedRequest) (question : Query) (edns : Option EdnsFields) (now : ℕ) (Says : DomainName × List H → Contents → Type 0)
+    (one : one_query r.message.queries.queries ≡ Ok question) (no_transfer : (question.query_type == type_axfr) ≡ false)
+    (by_zone : (zone : DomainName × List H) → Contains server.zones zone → (reply : Reply) → ZoneReply server zone.1 (record { request = r; query = question }) edns now reply
+      → (contents : Contents) × Says zone contents × (reply ≡ unsigned_reply r.message edns contents)) where
+  asked_is : (query : Query) → one_query r.message.queries.queries ≡ Ok query → query ≡ question
+  asked_is query asks = let same : ◌≡◌ {A = Result Query LookupError} (Ok query) (Ok question) = sym asks ∙ one in cc
+
+  from_zone : (zone : DomainName × List H) → IsNearest server.zones (lower_name question.name) zone → (replies : List Reply)
+      → ZoneReplies server zone.1 (record { request = r; query = question }) edns now replies → IsOne server r question edns Says replies
+  from_zone zone nearest replies (queries.one {reply = reply} made is) =
+      let s = by_zone zone nearest.among reply made in (s.0, by_nearest zone nearest s.1, is ∙ ap (λ (x : Reply). x ∷ []) s.2)
+  from_zone zone nearest replies (queries.transfer transfer _ _) = absurd (false≢true (sym no_transfer ∙ transfer))
+
+  pub query_replied : (replies : List Reply) → QueryReplies server r edns now replies → IsOne server r question edns Says replies
+  query_replied replies (queries.other_count {e = e} bad _) = let no : ◌≡◌ {A = Result Query LookupError} (Ok question) (Err e) = sym one ∙ bad in absurd cc
+  query_replied replies (queries.no_zone {query = query} asks none is) =
+      (error_contents r.message.metadata code_refused, by_nobody (subst (λ (q : Query). Finds server.zones (lower_name q.name) None) (asked_is query asks) none) refl, is)
+  query_replied replies (queries.zone {query = query} {chain = chain} asks found made) =
+      let same = asked_is query asks in
+      from_zone (found.0, chain) (subst (λ (q : Query). IsNearest server.zones (lower_name q.name) (found.0, chain)) same found.1) replies
+      (subst (λ (q : Query). ZoneReplies server chain (record { request = r; query = q }) edns now replies) same made)

@@ -1,0 +1,86 @@
+-- What a server of zones that are as they were loaded replies to a query.
+use Rattle.std.specs.Prelude.{◌≡◌, ◌≢◌, ◌≤◌, ◌∷◌, [], ℕ, All, List, Option, None, length}
+use Rattle.either.specs.declared.Either.TheVariants.{Left}
+use Rattle.wire_names.specs.rr.domain.DomainName.{DomainName}
+use Rattle.wire_names.specs.rr.domain.NameOrder.{lower_name}
+use Rattle.wire_names.specs.declared.error.ProtoError.{ProtoError}
+use Rattle.wire_messages.specs.Numbers.{class_in, code_refused, type_ds}
+use Rattle.wire_messages.specs.declared.op.query.Query.{Query}
+use Rattle.hickory_base.specs.requests.RequestReading.{IsFaultOf}
+use Rattle.hickory_base.specs.requests.Requests.{ReceivedRequest}
+use Rattle.hickory_base.specs.responses.EncodingSinks.{IsEncodingOf}
+use Rattle.hickory_base.specs.zone_store.ZoneAnswers.{MemoryZone}
+use Rattle.hickory_base.specs.declared.zone_store.handler.ZoneHandler.{Ghosts}
+use Rattle.hickory_catalog.specs.replies.Replies.{Contents, error_contents, unsigned_reply}
+use Rattle.hickory_catalog.specs.replies.ReplyEdns.{reply_edns}
+use Rattle.hickory_catalog.specs.replies.Signing.{Signer}
+use Rattle.hickory_catalog.specs.requests.Server.{server_of}
+use Rattle.hickory_catalog.specs.zones.Find.{Finds, IsNearest}
+use Rattle.hickory_catalog.specs.zones.Zones.{ZoneChains}
+use Rattle.hickory_catalog.specs.declared.catalog.Catalog.{Catalog}
+use Rattle.hickory_server.specs.server.Ruling.{IsQuery, IsResponse, IsTransfer, MayUse, udp_limit}
+use Rattle.hickory_server.specs.server.ServedBy.{AreSent, ServedBy}
+use Rattle.hickory_server.specs.server.Serving.{IsRequestOf, LeavesUnserved}
+use Rattle.hickory_server.specs.declared.server.answer.Answer.{Answer}
+use Rattle.hickory_server.specs.declared.server.answer.Answer.TheVariants.{Replies}
+use Rattle.hickory_server.specs.declared.server.rules.Rules.{Rules}
+use Rattle.hickory_server.specs.declared.server.serve.Incoming.{Incoming}
+use Rattle.hickory_server.specs.declared.server.serve.ServeError.{ServeError}
+use Rattle.hickory_server.specs.zone_handler.ZoneReplies.{SaysTheReply}
+use Rattle.hickory_zone.specs.Zones.{AreOwners}
+use Rattle.served_zones.specs.ServedZones.{Chain, ServedHandler, loaded}
+
+-- The chain is a zone as it is loaded. Each owner name is the zone's apex or below it.
+abbrev pub IsLoadedChain : Chain → Type 0
+IsLoadedChain chain = (zone : MemoryZone) × (chain ≡ Left (loaded zone) ∷ []) × AreOwners zone.origin zone.sets
+
+abbrev pub AreLoaded : ZoneChains ServedHandler → Type 0
+AreLoaded zones = All (λ served. IsLoadedChain served.1) zones
+
+-- The message is a query of this one question: of class IN, neither for a transfer nor for DS records, and from an
+-- address that may use the server.
+pub record IsPlainQuery (rules : Rules) (message : Incoming) (question : Query) : Type 0 where
+  pub may_use : MayUse rules message.src
+  pub whole : 12 ≤ length message.bytes.items
+  pub no_response : ¬ (IsResponse message.bytes.items)
+  pub request : ReceivedRequest
+  pub is_request : IsRequestOf message request
+  pub is_query : IsQuery request.message question
+  pub class : question.query_class ≡ class_in
+  pub no_transfer : ¬ (IsTransfer question)
+  pub no_ds : question.query_type ≢ type_ds
+
+-- So its bytes begin with a message (RFC 1035 section 4.1).
+abbrev pub PlainQueriesAreRead : Type 0
+PlainQueriesAreRead = (rules : Rules) (message : Incoming) (question : Query) (e : ProtoError) → IsPlainQuery rules message question → ¬ (IsFaultOf message.bytes.items e)
+
+-- What the reply to a question says: REFUSED, if no zone answers for the name (RFC 1035 section 4.1.1); or what the
+-- zone that is nearest to the name replies (RFC 1034 section 4.3.2).
+pub data IsSaidBy (zones : ZoneChains ServedHandler) (request : ReceivedRequest) (question : Query) (contents : Contents) : Type 0 where
+  by_none : Finds zones (lower_name question.name) None → contents ≡ error_contents request.message.metadata code_refused → IsSaidBy zones request question contents
+  by_zone : {apex : DomainName} {chain : Chain} {zone : MemoryZone} → IsNearest zones (lower_name question.name) (apex, chain)
+      → chain ≡ Left (loaded zone) ∷ [] → SaysTheReply zone request question contents → IsSaidBy zones request question contents
+
+-- One message leaves. It encodes a reply that says this, with the question and, if the request has EDNS, with an OPT
+-- record; over UDP within the limits of client and server.
+pub record IsSentAlone (rules : Rules) (identifier : Option (List ℕ)) (message : Incoming) (request : ReceivedRequest) (contents : Contents) (answer : Answer) : Type 0 where
+  pub encoded : List ℕ
+  pub encodes : IsEncodingOf message.protocol (unsigned_reply request.message (reply_edns identifier request.message.edns) contents) encoded
+  pub bytes : List ℕ
+  pub sent : AreSent message.protocol (udp_limit rules) (encoded ∷ []) (bytes ∷ [])
+  pub answer_is : answer ≡ Replies (bytes ∷ [])
+
+-- A server whose zones are as they were loaded answers such a query by its zones.
+abbrev pub LoadedZonesReply : {S : Type 0} → Ghosts ServedHandler → (S → Signer) → Type 0
+LoadedZonesReply {S} handler signature_for =
+    (rules : Rules) (catalog : Catalog S ServedHandler) (message : Incoming) (question : Query) (answer : Answer) (after : ZoneChains ServedHandler)
+    → AreLoaded catalog.zones → IsPlainQuery rules message question → ServedBy rules (server_of handler signature_for catalog) message answer after
+    → (request : ReceivedRequest) × IsRequestOf message request × (contents : Contents)
+    × IsSaidBy catalog.zones request question contents × IsSentAlone rules catalog.nsid message request contents answer
+
+-- No message changes such zones, also if memory is refused for it.
+abbrev pub LoadedZonesStay : {S : Type 0} → Ghosts ServedHandler → (S → Signer) → Type 0
+LoadedZonesStay {S} handler signature_for =
+    (rules : Rules) (catalog : Catalog S ServedHandler) (message : Incoming) (after : ZoneChains ServedHandler) → AreLoaded catalog.zones
+    → ((answer : Answer) → ServedBy rules (server_of handler signature_for catalog) message answer after → after ≡ catalog.zones)
+    × ((e : ServeError) → LeavesUnserved rules.access (server_of handler signature_for catalog) message e after → after ≡ catalog.zones)
