@@ -1,7 +1,6 @@
 -- What a server of zones that are as they were loaded replies to a query.
-use Rattle.std.proofs.Common.{◌≡◌, ◌⊎◌, ◌∙◌, inl, inr, ℕ, true, false, List, [], ◌∷◌, Option, Some, None, Result, Ok, Err, refl, sym, ap, subst, arith}
+use Rattle.std.proofs.Common.{◌≡◌, ◌⊎◌, ◌∙◌, inl, inr, ℕ, false, List, [], ◌∷◌, Option, None, Result, Ok, Err, refl, sym, ap, subst, arith}
 use Rattle.std.specs.Prelude.{◌==◌, Contains}
-use Rattle.std.specs.List.{AllZip}
 use Rattle.std.proofs.lemmas.Bool.{false≢true, ne_eqb}
 use Rattle.std.proofs.lemmas.List.Elements.{All-contains}
 use Rattle.either.specs.declared.Either.TheVariants.{Left}
@@ -18,16 +17,15 @@ use Rattle.wire_reading.specs.declared.op.message.Message.{Message}
 use Rattle.hickory_base.specs.requests.Questions.{one_query}
 use Rattle.hickory_base.specs.requests.RequestReading.{message_of}
 use Rattle.hickory_base.specs.requests.Requests.{ReceivedRequest}
-use Rattle.hickory_base.specs.responses.EncodingSinks.{IsEncodingOf}
 use Rattle.hickory_base.specs.zone_store.Lookups.{Flow, SignerContext}
 use Rattle.hickory_base.specs.zone_store.ZoneAnswers.{MemoryZone}
 use Rattle.hickory_base.specs.declared.errors.LookupError.{LookupError}
 use Rattle.hickory_base.specs.declared.errors.LookupError.TheVariants.{Memory}
 use Rattle.hickory_base.specs.declared.requests.message_request.MessageRequest.{MessageRequest}
-use Rattle.hickory_base.specs.declared.zone_store.handler.NxProofKind.{NxProofKind}
 use Rattle.hickory_base.specs.declared.zone_store.handler.ZoneHandler.{Ghosts}
+use Rattle.hickory_base.specs.declared.zone_store.lookup.LookupControlFlow.TheVariants.{Continue}
 use Rattle.hickory_base.specs.declared.zone_store.lookup.LookupOptions.{LookupOptions}
-use Rattle.hickory_catalog.specs.queries.Queries.{HandlerReply, QueryReplies, ZoneReply, is_out_of_memory}
+use Rattle.hickory_catalog.specs.queries.Queries.{HandlerReply, ZoneReply, is_out_of_memory}
 use Rattle.hickory_catalog.specs.replies.Replies.{Contents, unsigned_reply}
 use Rattle.hickory_catalog.specs.replies.ReplyEdns.{reply_edns}
 use Rattle.hickory_catalog.specs.replies.Signing.{Signer}
@@ -40,7 +38,7 @@ use Rattle.hickory_server.proofs.lemmas.server.Above.{one_question}
 use Rattle.hickory_server.proofs.lemmas.server.Refusals.{looked_into, one_encoded, one_is}
 use Rattle.hickory_server.proofs.lemmas.zone_handler.MadeReplies.{made}
 use Rattle.hickory_server.specs.server.Ruling.{IsIncremental, IsOfServedClass, IsQuery, IsRefusedUpdate, IsRuling, IsTransfer, MayTransfer, udp_limit}
-use Rattle.hickory_server.specs.server.ServedBy.{AreSent, IsBounded, ServedBy}
+use Rattle.hickory_server.specs.server.ServedBy.{AreSent}
 use Rattle.hickory_server.specs.server.ServedLaws.{IsLetThrough, IsSent, LetThroughSteps}
 use Rattle.hickory_server.specs.server.Serving.{IsRequestOf, Step}
 use Rattle.hickory_server.specs.server.Serving as serving
@@ -51,10 +49,8 @@ use Rattle.hickory_server.specs.declared.server.rules.Rules.{Rules}
 use Rattle.hickory_server.specs.declared.server.rules.Ruling.TheVariants.{Pass}
 use Rattle.hickory_server.specs.declared.server.serve.Incoming.{Incoming}
 use Rattle.hickory_server.specs.declared.server.serve.Outcome.{Outcome}
-use Rattle.hickory_server.specs.declared.server.serve.Outcome.TheVariants as outcomes
-use Rattle.hickory_zone.specs.Handled as handled
 use Rattle.hickory_zone.specs.Zones.{AreOwners}
-use Rattle.served_zones.proofs.LoneHandlers.{Found, IsOne, IsSaid, by_nearest, by_nobody, query_replied, replied_alone}
+use Rattle.served_zones.proofs.LoneHandlers.{Found, IsSaid, by_nearest, by_nobody, query_replied, replied_alone}
 use Rattle.served_zones.specs.LoadedZones.{AreLoaded, IsLoadedChain, IsPlainQuery, IsSaidBy, IsSentAlone, LoadedZonesReply, by_none, by_zone}
 use Rattle.served_zones.specs.ServedZones.{ServedHandler, loaded}
 use Rattle.zones.specs.Laws.{OwnedZonesAreLookedUp}
@@ -184,9 +180,9 @@ module _ (handler : Ghosts ServedHandler)
           × IsSaidBy catalog.zones request question contents × IsSentAlone rules catalog.nsid message request contents answer
       by (serving.denied refuses _ _) sent = absurd (refuses plain.may_use)
       by (serving.unreadable _ fault _ _) sent = absurd (no_fault message.bytes.items (message_of plain.request.message) fault.fault plain.is_request.reads fault.first)
-      by (serving.handled {request = r} {replies = replies} {encoded = encoded} _ is replied encodes told) sent =
+      by (serving.handled {request = r} {replies = replies} {encoded = encoded} _ is answers encodes told) sent =
           let asked = read_so same rules message question plain r is in
-          let a = answered catalog are r question asked (ne_eqb question.query_type type_axfr (λ axfr. plain.no_transfer (inl axfr))) message.now replies after replied in
+          let a = answered catalog are r question asked (ne_eqb question.query_type type_axfr (λ axfr. plain.no_transfer (inl axfr))) message.now replies after answers in
           let one = one_encoded message.protocol replies (unsigned_reply r.message (reply_edns catalog.nsid r.message.edns) a.0) encoded a.2 encodes in
           let s : (bytes : List (List ℕ)) × AreSent message.protocol (udp_limit rules) encoded bytes × (answer ≡ Replies bytes) = subst (λ (o : Outcome). IsSent message (udp_limit rules) o answer) told sent in
           let leaves = subst (λ (e : List (List ℕ)). AreSent message.protocol (udp_limit rules) e s.0) one.1 s.1 in

@@ -1,5 +1,5 @@
 -- No message changes zones that are as they were loaded: they take no updates.
-use Rattle.std.proofs.Common.{◌≡◌, ◌⊎◌, ◌∙◌, inl, inr, ℕ, Bool, false, List, [], ◌∷◌, Option, Some, None, Result, Ok, Err, OnErr, refl, sym, ap, subst, arith}
+use Rattle.std.proofs.Common.{◌≡◌, ◌∙◌, inl, inr, ℕ, Bool, false, List, [], ◌∷◌, Option, Ok, Err, refl, sym, ap, subst, arith}
 use Rattle.std.specs.Prelude.{Contains, IsTrue}
 use Rattle.std.proofs.lemmas.List.Elements.{All-contains, Contains-append_right}
 use Rattle.either.specs.declared.Either.TheVariants.{Left}
@@ -17,7 +17,7 @@ use Rattle.hickory_catalog.proofs.lemmas.zones.PlacesInOrder.{same_after}
 use Rattle.hickory_catalog.specs.replies.Signing.{Signer}
 use Rattle.hickory_catalog.specs.requests.Requests.{RequestAnswered}
 use Rattle.hickory_catalog.specs.requests.Requests as requests
-use Rattle.hickory_catalog.specs.requests.Server.{Server, server_of}
+use Rattle.hickory_catalog.specs.requests.Server.{server_of}
 use Rattle.hickory_catalog.specs.updates.Updates.{ApexUpdated, HandlerUpdated, UpdateReply}
 use Rattle.hickory_catalog.specs.updates.Updates as updates
 use Rattle.hickory_catalog.specs.zones.Zones.{ZoneChains}
@@ -29,7 +29,6 @@ use Rattle.hickory_server.specs.server.ServedBy as by_rules
 use Rattle.hickory_server.specs.server.Serving.{LeavesUnserved}
 use Rattle.hickory_server.specs.declared.server.answer.Answer.{Answer}
 use Rattle.hickory_server.specs.declared.server.rules.Rules.{Rules}
-use Rattle.hickory_server.specs.declared.server.serve.Incoming.{Incoming}
 use Rattle.hickory_server.specs.declared.server.serve.ServeError.{ServeError}
 use Rattle.hickory_server.specs.declared.server.serve.ServeError.TheVariants as serve_error
 use Rattle.served_zones.specs.LoadedZones.{AreLoaded, IsLoadedChain, LoadedZonesStay}
@@ -107,5 +106,7 @@ module _ (handler : Ghosts ServedHandler)
     by_error : (e : ServeError) → LeavesUnserved rules.access (server_of handler signature_for catalog) message e after → after ≡ catalog.zones
     by_error serve_error.Memory leaves = leaves.1
     by_error serve_error.MemoryAfterHandling (allowed, r, is, sink, inl (some, replies, answered)) = request_stays signature_for catalog are r message.now replies after answered
-    by_error serve_error.MemoryAfterHandling (allowed, r, is, sink, inr (none, empty, fine, op, name, named, changed, context, updated)) =
+    by_error serve_error.MemoryAfterHandling (allowed, r, is, sink, inr (none, empty, leaves)) =
+        let (fine, op, left) = leaves in
+        let (name, named, changed, context, updated) = left in
         apex_stays signature_for catalog are r message.now name (Ok changed) context after updated

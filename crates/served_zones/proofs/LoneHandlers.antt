@@ -1,5 +1,5 @@
 -- What a catalog replies to a query from zones of one handler each, which always gives an answer.
-use Rattle.std.proofs.Common.{◌≡◌, ◌⊎◌, inl, inr, ◌∙◌, ℕ, true, false, List, [], ◌∷◌, Option, Some, None, Result, Ok, Err, refl, sym, ap, ap₂, subst}
+use Rattle.std.proofs.Common.{◌≡◌, ◌∙◌, ℕ, false, List, [], ◌∷◌, Option, Some, None, Result, Ok, Err, refl, sym, ap, ap₂, subst}
 use Rattle.std.specs.Prelude.{◌==◌, Contains, slice_get}
 use Rattle.std.specs.List.{remove}
 use Rattle.std.proofs.lemmas.Bool.{false≢true}
@@ -20,12 +20,12 @@ use Rattle.hickory_base.specs.declared.zone_store.lookup.LookupOptions.{LookupOp
 use Rattle.hickory_catalog.specs.queries.Queries.{AskedQuery, HandlerReply, QueryReplies, ZoneReplies, ZoneReply, consult_options, is_out_of_memory}
 use Rattle.hickory_catalog.specs.queries.Queries as queries
 use Rattle.hickory_catalog.specs.queries.Transcripts.{Asked, ChainAnswers, Consulted, Follows, Given, all_consulted, answered, options_of, out_of_memory, skipped}
-use Rattle.hickory_catalog.specs.replies.Replies.{Contents, error_contents, error_reply, unsigned_reply}
+use Rattle.hickory_catalog.specs.replies.Replies.{Contents, error_contents, unsigned_reply}
 use Rattle.hickory_catalog.specs.replies.Signing.{IsSigned, SignedReply, Signer, plain}
 use Rattle.hickory_catalog.specs.requests.Server.{Server}
 use Rattle.hickory_catalog.specs.zones.Find.{Finds, IsNearest}
 
-abbrev Found : Type 0
+abbrev pub Found : Type 0
 Found = Result AuthLookup LookupError
 
 -- what a handler gives that answers, with nothing for a signer
@@ -71,7 +71,7 @@ module _ {H : Type 0} (server : Server H) (h : H) (r : ReceivedRequest) (questio
       let a = chain_alone server.handler h r Stands gives (information r question) (consult_options edns) final answers in
       let some : result_of final.given.0 ≡ Some a.1 = ap (λ (given : Given). result_of given.0) a.3 in
       let no : ◌≡◌ {A = Option Found} None (Some a.1) = sym none ∙ some in absurd cc
-  replied_alone edns now reply no_transfer (queries.lookup {h = other} {final = final} {result = result} contents _ answers gave at in_memory handled signed) =
+  replied_alone edns now reply no_transfer (queries.lookup {h = other} {final = final} {result = result} contents _ answers gave at in_memory handled by_context) =
       let a = chain_alone server.handler h r Stands gives (information r question) (consult_options edns) final answers in
       let both : ◌≡◌ {A = Option Found} (Some a.1) (Some result) = sym (ap (λ (given : Given). result_of given.0) a.3) ∙ gave in
       let one : a.1 ≡ result = cc in
@@ -81,7 +81,7 @@ module _ {H : Type 0} (server : Server H) (h : H) (r : ReceivedRequest) (questio
         contents,
         made result contents (subst Stands one a.2) in_memory
         (subst (λ (k : H). HandlerReply server.handler k (server.handler.zone_type_of k) (record { request = r; query = question }) result contents) same handled),
-        unsigned_of (subst (λ (context : SignerContext). SignedReply server.signer r.message edns contents context reply) no_context signed),
+        unsigned_of (subst (λ (context : SignerContext). SignedReply server.signer r.message edns contents context reply) no_context by_context),
       )
 
 -- What the reply to a query says: REFUSED, if no zone answers for its name; or what the nearest zone replies.
