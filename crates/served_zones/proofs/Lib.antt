@@ -1,6 +1,6 @@
 mod AccessLists
-mod LoadedReplies
-mod LoadedZones
+mod QueriesByZones
+mod MadeUpdates
 mod LoneHandlers
 mod Rules
 mod RuledZones

@@ -3,7 +3,7 @@ pub mod Grants
 pub mod Holding
 pub mod JournalFaults
 pub mod Journals
-pub mod LoadedZones
+pub mod ServedQueries
 pub mod Operations
 pub mod ServedZones
 pub mod ZoneChanges

@@ -1,12 +1,13 @@
 //! Laws of what a server replies, each the contract of a function with nothing to do.
 
-ghost use Rattle.served_zones.specs.LoadedZones.{LoadedZonesReply, LoadedZonesStay, PlainQueriesAreRead};
+ghost use Rattle.served_zones.specs.ServedQueries.{PlainQueriesAreRead, QueriesAreAnswered, ZonesAreUpdated};
 ghost use Rattle.served_zones.specs.ZoneReplies.{TheReplyIsMade};
 
 use crate::handler::Handler;
 use hickory_base::zone_store::ZoneHandler;
 use hickory_catalog::signer::ReplySigner;
 use hickory_server::server::rule_laws::messages_by_rules;
+use hickory_store::updates::Verifier;
 use hickory_wire::message_laws::one_message;
 use signed_server::LeftToServer;
 use sqlite_disk::Disk;
@@ -23,11 +24,12 @@ pub fn replies_are_the_zones<D: Disk + Drop>()
     owned_zones_reply();
 }
 
-/// A server whose zones are as they were loaded answers a query by the zone that is nearest to its name (RFC 1034
-/// section 4.3.2), and no message changes such zones.
-pub fn loaded_zones<D: Disk + Drop>()
-    ensures reply { LoadedZonesReply ⟦<Handler<D> as ZoneHandler>⟧ ⟦<LeftToServer as ReplySigner>⟧.signature_for }
-    ensures stay { LoadedZonesStay ⟦<Handler<D> as ZoneHandler>⟧ ⟦<LeftToServer as ReplySigner>⟧.signature_for }
+/// A server answers a query by the zone that is nearest to its name (RFC 1034 section 4.3.2). A message changes zones
+/// only by an update that a zone answers `Ok` (RFC 2136).
+pub fn served_queries<D: Disk + Drop>()
+    ensures answered { QueriesAreAnswered ⟦<Handler<D> as ZoneHandler>⟧ ⟦<LeftToServer as ReplySigner>⟧.signature_for }
+    ensures updated { ZonesAreUpdated ⟦<Handler<D> as ZoneHandler>⟧ ⟦<LeftToServer as ReplySigner>⟧.signature_for
+        ⟦<TsigVerifier as Verifier>⟧ }
     ensures read { PlainQueriesAreRead }
 {
     owned_zones_reply();

@@ -1,4 +1,4 @@
--- What a server of zones that are as they were loaded replies to a query.
+-- What a server replies to a query from its zones.
 use Rattle.std.proofs.Common.{◌≡◌, ◌⊎◌, ◌∙◌, inl, inr, ℕ, false, List, [], ◌∷◌, Option, None, Result, Ok, Err, refl, sym, ap, subst, arith}
 use Rattle.std.specs.Prelude.{◌==◌, Contains}
 use Rattle.std.proofs.lemmas.Bool.{false≢true, ne_eqb}
@@ -42,19 +42,19 @@ use Rattle.hickory_server.specs.server.ServedBy.{AreSent}
 use Rattle.hickory_server.specs.server.ServedLaws.{IsLetThrough, IsSent, LetThroughSteps}
 use Rattle.hickory_server.specs.server.Serving.{IsRequestOf, Step}
 use Rattle.hickory_server.specs.server.Serving as serving
-use Rattle.hickory_server.specs.zone_handler.ZoneReplies.{SaysTheReply}
 use Rattle.hickory_server.specs.declared.server.answer.Answer.{Answer}
 use Rattle.hickory_server.specs.declared.server.answer.Answer.TheVariants.{Replies}
 use Rattle.hickory_server.specs.declared.server.rules.Rules.{Rules}
 use Rattle.hickory_server.specs.declared.server.rules.Ruling.TheVariants.{Pass}
 use Rattle.hickory_server.specs.declared.server.serve.Incoming.{Incoming}
 use Rattle.hickory_server.specs.declared.server.serve.Outcome.{Outcome}
-use Rattle.hickory_zone.specs.Zones.{AreOwners}
 use Rattle.served_zones.proofs.LoneHandlers.{Found, IsSaid, by_nearest, by_nobody, query_replied, replied_alone}
-use Rattle.served_zones.specs.LoadedZones.{AreLoaded, IsLoadedChain, IsPlainQuery, IsSaidBy, IsSentAlone, LoadedZonesReply, by_none, by_zone}
-use Rattle.served_zones.specs.ServedZones.{ServedHandler, loaded}
+use Rattle.served_zones.specs.ServedQueries.{AreAlone, IsPlainQuery, IsSaidBy, IsSaidByZone, IsSentAlone, IsZoneAlone, QueriesAreAnswered, by_failure, by_none, by_reply, by_zone}
+use Rattle.served_zones.specs.ServedZones.{ServedHandler}
+use Rattle.tsig.specs.declared.verifier.TsigVerifier.{TsigVerifier}
 use Rattle.zones.specs.Laws.{OwnedZonesAreLookedUp}
 use Rattle.zones.specs.ZoneQueries.{IsAnswered, LookedUp, Searched, SearchedFor, failed, replied}
+use Rattle.zones.specs.ZoneStates.{ZoneState}
 
 -- ---- what the rules make of the query
 
@@ -107,38 +107,40 @@ one_sent protocols.Https limit reply sent are = (reply, are)
 one_sent protocols.Quic limit reply sent are = (reply, are)
 one_sent protocols.H3 limit reply sent are = (reply, are)
 
--- a chain of a zone as it is loaded, which says this to a question
+-- a chain of a zone alone, which says this to a question
 abbrev Says : ReceivedRequest → Query → DomainName × List ServedHandler → Contents → Type 0
-Says r question served contents = (zone : MemoryZone) × (served.1 ≡ Left (loaded zone) ∷ []) × SaysTheReply zone r question contents
+Says r question served contents = (zone : ZoneState TsigVerifier) × (served.1 ≡ Left zone ∷ []) × IsSaidByZone zone.updatable.zone r question contents
 
 module _ (handler : Ghosts ServedHandler)
-    (searches : (zone : MemoryZone) (r : ReceivedRequest) (options : LookupOptions) (flow : Flow) (context : SignerContext) → handler.search_gives (Left (loaded zone)) r options flow context → Searched zone r flow × (context ≡ None))
-    (type : (zone : MemoryZone) → handler.zone_type_of (Left (loaded zone)) ≡ zone.zone_type)
-    (no_proofs : (zone : MemoryZone) → handler.nx_proof_kind_of (Left (loaded zone)) ≡ None)
-    (looks : (zone : MemoryZone) (options : LookupOptions) (flow : Flow) → handler.lookup_gives (Left (loaded zone)) (handler.origin_of (Left (loaded zone))) 6 None options flow → LookedUp zone zone.origin 6 flow)
+    (searches : (zone : ZoneState TsigVerifier) (r : ReceivedRequest) (options : LookupOptions) (flow : Flow) (context : SignerContext) → handler.search_gives (Left zone) r options flow context → Searched zone.updatable.zone r flow × (context ≡ None))
+    (type : (zone : ZoneState TsigVerifier) → handler.zone_type_of (Left zone) ≡ zone.updatable.zone.zone_type)
+    (no_proofs : (zone : ZoneState TsigVerifier) → handler.nx_proof_kind_of (Left zone) ≡ None)
+    (looks : (zone : ZoneState TsigVerifier) (options : LookupOptions) (flow : Flow) → handler.lookup_gives (Left zone) (handler.origin_of (Left zone)) 6 None options flow → LookedUp zone.updatable.zone zone.updatable.zone.origin 6 flow)
     (owned : OwnedZonesAreLookedUp) where
   -- what the zone gives for the question, and what the catalog makes of it
   abbrev Stands : MemoryZone → Query → Found → Type 0
   Stands zone question result = IsAnswered zone question result ⊎ (result ≡ Err Memory)
 
-  gives : (zone : MemoryZone) (r : ReceivedRequest) (question : Query) → one_query r.message.queries.queries ≡ Ok question → (options : LookupOptions) (flow : Flow) (context : SignerContext)
-      → handler.search_gives (Left (loaded zone)) r options flow context → (result : Found) × Stands zone question result × (flow ≡ Continue result) × (context ≡ None)
+  gives : (zone : ZoneState TsigVerifier) (r : ReceivedRequest) (question : Query) → one_query r.message.queries.queries ≡ Ok question → (options : LookupOptions) (flow : Flow) (context : SignerContext)
+      → handler.search_gives (Left zone) r options flow context → (result : Found) × Stands zone.updatable.zone question result × (flow ≡ Continue result) × (context ≡ None)
   gives zone r question one options flow context gave =
       let s = searches zone r options flow context gave in
-      let found : SearchedFor zone (Ok question) flow = subst (λ (q : Result Query LookupError). SearchedFor zone q flow) one s.0 in
+      let found : SearchedFor zone.updatable.zone (Ok question) flow = subst (λ (q : Result Query LookupError). SearchedFor zone.updatable.zone q flow) one s.0 in
       (found.0, found.1, found.2, s.1)
 
-  said : (zone : MemoryZone) (r : ReceivedRequest) (question : Query) → AreOwners zone.origin zone.sets → (result : Found) (contents : Contents) → Stands zone question result → is_out_of_memory result ≡ false
-      → HandlerReply handler (Left (loaded zone)) (handler.zone_type_of (Left (loaded zone))) (record { request = r; query = question }) result contents → SaysTheReply zone r question contents
-  said zone r question owners result contents (inl (replied _ stands)) in_memory reply =
-      made handler (Left (loaded zone)) zone (no_proofs zone) (λ options flow looked. owned zone zone.origin 6 flow owners (looks zone options flow looked)) r question contents result stands
-      (subst (λ t. HandlerReply handler (Left (loaded zone)) t (record { request = r; query = question }) result contents) (type zone) reply)
-  said zone r question owners result contents (inl (failed not _)) in_memory reply = absurd (not owners)
-  said zone r question owners result contents (inr none) in_memory reply = absurd (false≢true (sym in_memory ∙ ap is_out_of_memory none))
+  said : (zone : ZoneState TsigVerifier) (r : ReceivedRequest) (question : Query) (result : Found) (contents : Contents) → Stands zone.updatable.zone question result → is_out_of_memory result ≡ false
+      → HandlerReply handler (Left zone) (handler.zone_type_of (Left zone)) (record { request = r; query = question }) result contents → IsSaidByZone zone.updatable.zone r question contents
+  said zone r question result contents (inl (replied owners stands)) in_memory reply =
+      by_reply owners
+      (made handler (Left zone) zone.updatable.zone (no_proofs zone) (λ options flow looked. owned zone.updatable.zone zone.updatable.zone.origin 6 flow owners (looks zone options flow looked)) r question contents result stands
+      (subst (λ t. HandlerReply handler (Left zone) t (record { request = r; query = question }) result contents) (type zone) reply))
+  said zone r question result contents (inl (failed not is)) in_memory reply =
+      by_failure not (subst (λ (found : Found). HandlerReply handler (Left zone) (handler.zone_type_of (Left zone)) (record { request = r; query = question }) found contents) is reply).0
+  said zone r question result contents (inr none) in_memory reply = absurd (false≢true (sym in_memory ∙ ap is_out_of_memory none))
 
   module _ {S : Type 0} (signature_for : S → Signer) (steps : LetThroughSteps handler signature_for) (same : (bytes : List ℕ) (m n : Message) → Reads bytes m → Reads bytes n → m ≡ n)
       (no_fault : (bytes : List ℕ) (m : Message) (e : DecodeError) → Reads bytes m → Fault bytes e → ⊥) where
-    module _ (catalog : Catalog S ServedHandler) (are : AreLoaded catalog.zones) (r : ReceivedRequest) (question : Query) (is : IsQuery r.message question) (no_transfer : (question.query_type == type_axfr) ≡ false) (now : ℕ) where
+    module _ (catalog : Catalog S ServedHandler) (are : AreAlone catalog.zones) (r : ReceivedRequest) (question : Query) (is : IsQuery r.message question) (no_transfer : (question.query_type == type_axfr) ≡ false) (now : ℕ) where
       abbrev server : Server ServedHandler
       server = server_of handler signature_for catalog
 
@@ -151,9 +153,9 @@ module _ (handler : Ghosts ServedHandler)
       by_chain : (served : DomainName × List ServedHandler) → Contains catalog.zones served → (reply : Reply) → ZoneReply server served.1 (record { request = r; query = question }) edns now reply
           → (contents : Contents) × Says r question served contents × (reply ≡ unsigned_reply r.message edns contents)
       by_chain served among reply replies =
-          let l : IsLoadedChain served.1 = All-contains (λ (s : DomainName × List ServedHandler). IsLoadedChain s.1) catalog.zones served are among in
+          let l : IsZoneAlone served.1 = All-contains (λ (s : DomainName × List ServedHandler). IsZoneAlone s.1) catalog.zones served are among in
           let here = subst (λ (chain : List ServedHandler). ZoneReply server chain (record { request = r; query = question }) edns now reply) l.1 replies in
-          let m = replied_alone server (Left (loaded l.0)) r question (Stands l.0 question) (SaysTheReply l.0 r question) (gives l.0 r question asks) (said l.0 r question l.2) edns now reply no_transfer here in
+          let m = replied_alone server (Left l.0) r question (Stands l.0.updatable.zone question) (IsSaidByZone l.0.updatable.zone r question) (gives l.0 r question asks) (said l.0 r question) edns now reply no_transfer here in
           (m.0, (l.0, l.1, m.1), m.2)
 
       abbrev One : List Reply → Type 0
@@ -161,7 +163,7 @@ module _ (handler : Ghosts ServedHandler)
 
       by_nearest_zone : (contents : Contents) → IsSaid server r question (Says r question) contents → IsSaidBy catalog.zones r question contents
       by_nearest_zone contents (by_nobody none is) = by_none none is
-      by_nearest_zone contents (by_nearest zone nearest (memory, chain, says)) = by_zone nearest chain says
+      by_nearest_zone contents (by_nearest zone nearest (state, chain, says)) = by_zone nearest chain says
 
       answered : (replies : List Reply) (after : ZoneChains ServedHandler) → RequestAnswered server r now replies after → One replies
       answered replies after (requests.refused fault _ _) = let fine = looked_into r.message question is in absurd cc
@@ -170,7 +172,7 @@ module _ (handler : Ghosts ServedHandler)
           let one = query_replied server r question edns now (Says r question) asks no_transfer by_chain replies query.are_replies in
           (one.0, by_nearest_zone one.0 one.1, one.2)
 
-    pub reply : LoadedZonesReply handler signature_for
+    pub reply : QueriesAreAnswered handler signature_for
     reply rules catalog message question answer after are plain served = by step.1 step.2 where
       step : (outcome : Outcome) × Step rules.access (server_of handler signature_for catalog) message outcome after × IsSent message (udp_limit rules) outcome answer
       step = steps rules catalog message answer after (let_through same rules message question plain catalog.zones) served

@@ -1,5 +1,5 @@
--- What a server of zones that are as they were loaded replies to a query.
-use Rattle.std.specs.Prelude.{◌≡◌, ◌≢◌, ◌≤◌, ◌∷◌, [], ℕ, All, List, Option, None, length}
+-- What a server replies to a query from its zones, and how messages change them.
+use Rattle.std.specs.Prelude.{◌≡◌, ◌≢◌, ◌≤◌, ◌⊎◌, ◌∷◌, [], ℕ, All, Bool, List, Ok, Option, None, Some, length}
 use Rattle.either.specs.declared.Either.TheVariants.{Left}
 use Rattle.wire_names.specs.rr.domain.DomainName.{DomainName}
 use Rattle.wire_names.specs.rr.domain.NameOrder.{lower_name}
@@ -9,14 +9,16 @@ use Rattle.wire_messages.specs.declared.op.query.Query.{Query}
 use Rattle.hickory_base.specs.requests.RequestReading.{IsFaultOf}
 use Rattle.hickory_base.specs.requests.Requests.{ReceivedRequest}
 use Rattle.hickory_base.specs.responses.EncodingSinks.{IsEncodingOf}
+use Rattle.hickory_base.specs.zone_store.Lookups.{SignerContext}
 use Rattle.hickory_base.specs.zone_store.ZoneAnswers.{MemoryZone}
 use Rattle.hickory_base.specs.declared.zone_store.handler.ZoneHandler.{Ghosts}
+use Rattle.hickory_catalog.specs.queries.Queries.{whole_contents}
 use Rattle.hickory_catalog.specs.replies.Replies.{Contents, error_contents, unsigned_reply}
 use Rattle.hickory_catalog.specs.replies.ReplyEdns.{reply_edns}
 use Rattle.hickory_catalog.specs.replies.Signing.{Signer}
 use Rattle.hickory_catalog.specs.requests.Server.{server_of}
 use Rattle.hickory_catalog.specs.zones.Find.{Finds, IsNearest}
-use Rattle.hickory_catalog.specs.zones.Zones.{ZoneChains}
+use Rattle.hickory_catalog.specs.zones.Zones.{ChangesAt, ZoneChains}
 use Rattle.hickory_catalog.specs.declared.catalog.Catalog.{Catalog}
 use Rattle.hickory_server.specs.server.Ruling.{IsQuery, IsResponse, IsTransfer, MayUse, udp_limit}
 use Rattle.hickory_server.specs.server.ServedBy.{AreSent, ServedBy}
@@ -28,14 +30,19 @@ use Rattle.hickory_server.specs.declared.server.serve.Incoming.{Incoming}
 use Rattle.hickory_server.specs.declared.server.serve.ServeError.{ServeError}
 use Rattle.hickory_server.specs.zone_handler.ZoneReplies.{SaysTheReply}
 use Rattle.hickory_zone.specs.Zones.{AreOwners}
-use Rattle.served_zones.specs.ServedZones.{Chain, ServedHandler, loaded}
+use Rattle.hickory_store.specs.declared.updates.verifier.Verifier.{Ghosts as Verifies}
+use Rattle.served_zones.specs.ServedZones.{Chain, ServedHandler}
+use Rattle.tsig.specs.declared.verifier.TsigVerifier.{TsigVerifier}
+use Rattle.zones.specs.ZoneQueries.{failure}
+use Rattle.zones.specs.ZoneStates.{ZoneState}
+use Rattle.zones.specs.ZoneUpdates.{Updates}
 
--- The chain is a zone as it is loaded. Each owner name is the zone's apex or below it.
-abbrev pub IsLoadedChain : Chain → Type 0
-IsLoadedChain chain = (zone : MemoryZone) × (chain ≡ Left (loaded zone) ∷ []) × AreOwners zone.origin zone.sets
+-- The chain is a zone, and no list of blocked names is asked after it.
+abbrev pub IsZoneAlone : Chain → Type 0
+IsZoneAlone chain = (zone : ZoneState TsigVerifier) × (chain ≡ Left zone ∷ [])
 
-abbrev pub AreLoaded : ZoneChains ServedHandler → Type 0
-AreLoaded zones = All (λ served. IsLoadedChain served.1) zones
+abbrev pub AreAlone : ZoneChains ServedHandler → Type 0
+AreAlone zones = All (λ served. IsZoneAlone served.1) zones
 
 -- The message is a query of this one question: of class IN, neither for a transfer nor for DS records, and from an
 -- address that may use the server.
@@ -54,12 +61,18 @@ pub record IsPlainQuery (rules : Rules) (message : Incoming) (question : Query) 
 abbrev pub PlainQueriesAreRead : Type 0
 PlainQueriesAreRead = (rules : Rules) (message : Incoming) (question : Query) (e : ProtoError) → IsPlainQuery rules message question → ¬ (IsFaultOf message.bytes.items e)
 
+-- What a zone says to a question: what it replies (RFC 1034 section 4.3.2). If an owner name is outside of the zone, it
+-- says that the server failed.
+pub data IsSaidByZone (zone : MemoryZone) (request : ReceivedRequest) (question : Query) (contents : Contents) : Type 0 where
+  by_reply : AreOwners zone.origin zone.sets → SaysTheReply zone request question contents → IsSaidByZone zone request question contents
+  by_failure : ¬ (AreOwners zone.origin zone.sets) → contents ≡ whole_contents request.message.metadata failure → IsSaidByZone zone request question contents
+
 -- What the reply to a question says: REFUSED, if no zone answers for the name (RFC 1035 section 4.1.1); or what the
--- zone that is nearest to the name replies (RFC 1034 section 4.3.2).
+-- zone that is nearest to the name says (RFC 1034 section 4.3.2, step 2).
 pub data IsSaidBy (zones : ZoneChains ServedHandler) (request : ReceivedRequest) (question : Query) (contents : Contents) : Type 0 where
   by_none : Finds zones (lower_name question.name) None → contents ≡ error_contents request.message.metadata code_refused → IsSaidBy zones request question contents
-  by_zone : {apex : DomainName} {chain : Chain} {zone : MemoryZone} → IsNearest zones (lower_name question.name) (apex, chain)
-      → chain ≡ Left (loaded zone) ∷ [] → SaysTheReply zone request question contents → IsSaidBy zones request question contents
+  by_zone : {apex : DomainName} {chain : Chain} {zone : ZoneState TsigVerifier} → IsNearest zones (lower_name question.name) (apex, chain)
+      → chain ≡ Left zone ∷ [] → IsSaidByZone zone.updatable.zone request question contents → IsSaidBy zones request question contents
 
 -- One message leaves. It encodes a reply that says this, with the question and, if the request has EDNS, with an OPT
 -- record; over UDP within the limits of client and server.
@@ -70,17 +83,29 @@ pub record IsSentAlone (rules : Rules) (identifier : Option (List ℕ)) (message
   pub sent : AreSent message.protocol (udp_limit rules) (encoded ∷ []) (bytes ∷ [])
   pub answer_is : answer ≡ Replies (bytes ∷ [])
 
--- A server whose zones are as they were loaded answers such a query by its zones.
-abbrev pub LoadedZonesReply : {S : Type 0} → Ghosts ServedHandler → (S → Signer) → Type 0
-LoadedZonesReply {S} handler signature_for =
+-- A server answers such a query by its zones.
+abbrev pub QueriesAreAnswered : {S : Type 0} → Ghosts ServedHandler → (S → Signer) → Type 0
+QueriesAreAnswered {S} handler signature_for =
     (rules : Rules) (catalog : Catalog S ServedHandler) (message : Incoming) (question : Query) (answer : Answer) (after : ZoneChains ServedHandler)
-    → AreLoaded catalog.zones → IsPlainQuery rules message question → ServedBy rules (server_of handler signature_for catalog) message answer after
+    → AreAlone catalog.zones → IsPlainQuery rules message question → ServedBy rules (server_of handler signature_for catalog) message answer after
     → (request : ReceivedRequest) × IsRequestOf message request × (contents : Contents)
     × IsSaidBy catalog.zones request question contents × IsSentAlone rules catalog.nsid message request contents answer
 
--- No message changes such zones, also if memory is refused for it.
-abbrev pub LoadedZonesStay : {S : Type 0} → Ghosts ServedHandler → (S → Signer) → Type 0
-LoadedZonesStay {S} handler signature_for =
-    (rules : Rules) (catalog : Catalog S ServedHandler) (message : Incoming) (after : ZoneChains ServedHandler) → AreLoaded catalog.zones
-    → ((answer : Answer) → ServedBy rules (server_of handler signature_for catalog) message answer after → after ≡ catalog.zones)
-    × ((e : ServeError) → LeavesUnserved rules.access (server_of handler signature_for catalog) message e after → after ≡ catalog.zones)
+-- A message makes an update, which the zone of its name answers `Ok` (RFC 2136). All other zones are as before.
+pub record MakesUpdate (by : Verifies TsigVerifier) (message : Incoming) (old new : ZoneChains ServedHandler) : Type 0 where
+  pub request : ReceivedRequest
+  pub is_request : IsRequestOf message request
+  pub name : DomainName
+  pub was : ZoneState TsigVerifier
+  pub is : ZoneState TsigVerifier
+  pub changed : ChangesAt old name (Some (Left was ∷ [])) (Some (Left is ∷ [])) new
+  pub answer : Bool
+  pub context : SignerContext
+  pub updates : Updates by was (request, message.now) (Ok answer) context is
+
+-- A message changes zones only by such an update, also if memory is refused for it.
+abbrev pub ZonesAreUpdated : {S : Type 0} → Ghosts ServedHandler → (S → Signer) → Verifies TsigVerifier → Type 0
+ZonesAreUpdated {S} handler signature_for by =
+    (rules : Rules) (catalog : Catalog S ServedHandler) (message : Incoming) (after : ZoneChains ServedHandler) → AreAlone catalog.zones
+    → ((answer : Answer) → ServedBy rules (server_of handler signature_for catalog) message answer after → (after ≡ catalog.zones) ⊎ MakesUpdate by message catalog.zones after)
+    × ((e : ServeError) → LeavesUnserved rules.access (server_of handler signature_for catalog) message e after → (after ≡ catalog.zones) ⊎ MakesUpdate by message catalog.zones after)
