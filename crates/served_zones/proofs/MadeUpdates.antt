@@ -1,9 +1,10 @@
 -- Messages change zones only by updates that the zones answer `Ok`.
-use Rattle.std.proofs.Common.{◌≡◌, ◌⊎◌, ◌∙◌, inl, inr, ℕ, Bool, List, [], ◌∷◌, Option, Some, Ok, Err, refl, sym, ap, subst, arith}
-use Rattle.std.specs.Prelude.{Contains}
+use Rattle.std.proofs.Common.{◌≡◌, ◌⊎◌, ◌∙◌, inl, inr, ℕ, Bool, true, List, [], ◌∷◌, Option, Some, Ok, Err, refl, sym, ap, subst, arith}
+use Rattle.std.specs.Prelude.{◌==◌, Contains}
 use Rattle.std.proofs.lemmas.List.Elements.{All-contains, Contains-append_right}
 use Rattle.either.specs.declared.Either.TheVariants.{Left}
 use Rattle.wire_names.specs.rr.domain.DomainName.{DomainName}
+use Rattle.wire_messages.specs.Numbers.{opcode_update}
 use Rattle.wire_messages.specs.op.EdnsFields.{EdnsFields}
 use Rattle.wire_messages.specs.serialize.writing.Reply.{Reply}
 use Rattle.hickory_base.specs.requests.Requests.{ReceivedRequest}
@@ -16,7 +17,7 @@ use Rattle.hickory_catalog.specs.replies.Signing.{Signer}
 use Rattle.hickory_catalog.specs.requests.Requests.{RequestAnswered}
 use Rattle.hickory_catalog.specs.requests.Requests as requests
 use Rattle.hickory_catalog.specs.requests.Server.{server_of}
-use Rattle.hickory_catalog.specs.updates.Updates.{ApexUpdated, FirstUpdated, HandlerUpdated, UpdateReply}
+use Rattle.hickory_catalog.specs.updates.Updates.{ApexUpdated, FirstUpdated, HandlerUpdated, UpdateReply, updated_zone}
 use Rattle.hickory_catalog.specs.updates.Updates as updates
 use Rattle.hickory_catalog.specs.zones.Zones.{ChangesAt, ZoneChains}
 use Rattle.hickory_catalog.specs.declared.catalog.Catalog.{Catalog}
@@ -59,8 +60,8 @@ module _ (handler : Ghosts ServedHandler) (by : Verifies TsigVerifier)
     abbrev Follows : ZoneChains ServedHandler → Type 0
     Follows after = (after ≡ catalog.zones) ⊎ MakesUpdate by message catalog.zones after
 
-    by_apex : (name : DomainName) (answer : UpdateResult) (context : SignerContext) (after : ZoneChains ServedHandler) → ApexUpdated handler (r, message.now) name catalog.zones (answer, context) after → Follows after
-    by_apex name answer context after made = from (by_handler l.0 first.first r message.now answer context first.after is first.answers) where
+    by_apex : (name : DomainName) → (r.message.metadata.op_code == opcode_update) ≡ true → updated_zone r ≡ Some name → (answer : UpdateResult) (context : SignerContext) (after : ZoneChains ServedHandler) → ApexUpdated handler (r, message.now) name catalog.zones (answer, context) after → Follows after
+    by_apex name is_update named answer context after made = from (by_handler l.0 first.first r message.now answer context first.after is first.answers) where
       changed : ChangesAt catalog.zones name (Some made.chain) (Some made.chain') after
       changed = made.changed
 
@@ -88,7 +89,9 @@ module _ (handler : Ghosts ServedHandler) (by : Verifies TsigVerifier)
           inr (record {
             request = r;
             is_request = is_request;
+            is_update = is_update;
             name = name;
+            named = named;
             was = l.0;
             is = new;
             changed = subst (λ (chain : List ServedHandler). ChangesAt catalog.zones name (Some (Left l.0 ∷ [])) (Some chain) after) (first.behind ∙ ap (λ (h : ServedHandler). h ∷ first.others) same ∙ ap (λ (hs : List ServedHandler). Left new ∷ hs) none)
@@ -98,16 +101,16 @@ module _ (handler : Ghosts ServedHandler) (by : Verifies TsigVerifier)
             updates = updates;
           })
 
-    by_update : (edns : Option EdnsFields) (reply : Reply) (after : ZoneChains ServedHandler) → UpdateReply (server_of handler signature_for catalog) r edns message.now reply after → Follows after
-    by_update edns reply after (updates.unnamed _ _ kept) = inl kept
-    by_update edns reply after (updates.no_apex _ _ _ kept) = inl kept
-    by_update edns reply after (updates.no_handler _ _ _ kept) = inl kept
-    by_update edns reply after (updates.answered {name = name} {answer = answer} {context = context} _ made _ _ _) = by_apex name answer context after made
+    by_update : (r.message.metadata.op_code == opcode_update) ≡ true → (edns : Option EdnsFields) (reply : Reply) (after : ZoneChains ServedHandler) → UpdateReply (server_of handler signature_for catalog) r edns message.now reply after → Follows after
+    by_update is_update edns reply after (updates.unnamed _ _ kept) = inl kept
+    by_update is_update edns reply after (updates.no_apex _ _ _ kept) = inl kept
+    by_update is_update edns reply after (updates.no_handler _ _ _ kept) = inl kept
+    by_update is_update edns reply after (updates.answered {name = name} {answer = answer} {context = context} named made _ _ _) = by_apex name is_update named answer context after made
 
     by_request : (replies : List Reply) (after : ZoneChains ServedHandler) → RequestAnswered (server_of handler signature_for catalog) r message.now replies after → Follows after
     by_request replies after (requests.refused _ _ kept) = inl kept
     by_request replies after (requests.asks _ _ query) = inl query.kept
-    by_request replies after (requests.updates _ _ update) = by_update _ update.reply after update.is_reply
+    by_request replies after (requests.updates _ is_update update) = by_update is_update _ update.reply after update.is_reply
 
     by_server : (rules : Rules) (encoded : List (List ℕ)) (after : ZoneChains ServedHandler) → RequestServed rules (server_of handler signature_for catalog) r message.now encoded after → Follows after
     by_server rules encoded after (by_rules.refused _ _ _ kept) = inl kept
@@ -131,4 +134,4 @@ module _ (handler : Ghosts ServedHandler) (by : Verifies TsigVerifier)
     by_error serve_error.MemoryAfterHandling (allowed, r, is, sink, inr (none, empty, leaves)) =
         let (fine, op, left) = leaves in
         let (name, named, changed, context, made) = left in
-        by_apex signature_for catalog are message r is name (Ok changed) context after made
+        by_apex signature_for catalog are message r is name op named (Ok changed) context after made

@@ -1,10 +1,10 @@
 -- What a server replies to a query from its zones, and how messages change them.
-use Rattle.std.specs.Prelude.{◌≡◌, ◌≢◌, ◌≤◌, ◌⊎◌, ◌∷◌, [], ℕ, All, Bool, List, Ok, Option, None, Some, length}
+use Rattle.std.specs.Prelude.{◌≡◌, ◌==◌, ◌≢◌, ◌≤◌, ◌⊎◌, ◌∷◌, [], ℕ, All, Bool, List, Ok, Option, None, Some, length, true}
 use Rattle.either.specs.declared.Either.TheVariants.{Left}
 use Rattle.wire_names.specs.rr.domain.DomainName.{DomainName}
 use Rattle.wire_names.specs.rr.domain.NameOrder.{lower_name}
 use Rattle.wire_names.specs.declared.error.ProtoError.{ProtoError}
-use Rattle.wire_messages.specs.Numbers.{class_in, code_refused, type_ds}
+use Rattle.wire_messages.specs.Numbers.{class_in, code_refused, opcode_update, type_ds}
 use Rattle.wire_messages.specs.declared.op.query.Query.{Query}
 use Rattle.hickory_base.specs.requests.RequestReading.{IsFaultOf}
 use Rattle.hickory_base.specs.requests.Requests.{ReceivedRequest}
@@ -17,6 +17,7 @@ use Rattle.hickory_catalog.specs.replies.Replies.{Contents, error_contents, unsi
 use Rattle.hickory_catalog.specs.replies.ReplyEdns.{reply_edns}
 use Rattle.hickory_catalog.specs.replies.Signing.{Signer}
 use Rattle.hickory_catalog.specs.requests.Server.{server_of}
+use Rattle.hickory_catalog.specs.updates.Updates.{updated_zone}
 use Rattle.hickory_catalog.specs.zones.Find.{Finds, IsNearest}
 use Rattle.hickory_catalog.specs.zones.Zones.{ChangesAt, ZoneChains}
 use Rattle.hickory_catalog.specs.declared.catalog.Catalog.{Catalog}
@@ -91,11 +92,13 @@ QueriesAreAnswered {S} handler signature_for =
     → (request : ReceivedRequest) × IsRequestOf message request × (contents : Contents)
     × IsSaidBy catalog.zones request question contents × IsSentAlone rules catalog.nsid message request contents answer
 
--- A message makes an update, which the zone of its name answers `Ok` (RFC 2136). All other zones are as before.
+-- A message is an update (RFC 2136), and the zone that it names answered it `Ok`. All other zones are as before.
 pub record MakesUpdate (by : Verifies TsigVerifier) (message : Incoming) (old new : ZoneChains ServedHandler) : Type 0 where
   pub request : ReceivedRequest
   pub is_request : IsRequestOf message request
+  pub is_update : (request.message.metadata.op_code == opcode_update) ≡ true
   pub name : DomainName
+  pub named : updated_zone request ≡ Some name
   pub was : ZoneState TsigVerifier
   pub is : ZoneState TsigVerifier
   pub changed : ChangesAt old name (Some (Left was ∷ [])) (Some (Left is ∷ [])) new
