@@ -8,7 +8,7 @@ use Rattle.wire_names.specs.rr.domain.DomainName.{DomainName}
 use Rattle.wire_names.specs.rr.domain.NameOrder.{Encloses, SameName, lower_name}
 use Rattle.wire_names.proofs.lemmas.rr.domain.SameNames.{lower_labels-twice}
 use Rattle.wire_messages.specs.declared.op.query.Query.{Query}
-use Rattle.hickory_base.specs.requests.Requests.{ReceivedRequest}
+use Rattle.hickory_base.specs.requests.Requests.{ReceivedRequest, TimedRequest}
 use Rattle.hickory_base.specs.zone_store.ZoneAnswers.{MemoryZone}
 use Rattle.hickory_base.specs.declared.zone_store.handler.ZoneHandler.{Ghosts}
 use Rattle.hickory_catalog.proofs.lemmas.zones.Alone.{contains_behind, contains_cases}
@@ -18,15 +18,21 @@ use Rattle.hickory_catalog.specs.replies.Replies.{Contents}
 use Rattle.hickory_catalog.specs.replies.Signing.{Signer}
 use Rattle.hickory_catalog.specs.requests.Server.{server_of}
 use Rattle.hickory_catalog.specs.zones.Find.{IsNearest, MayAnswer}
-use Rattle.hickory_catalog.specs.zones.Zones.{HasZone, ZoneChains}
+use Rattle.hickory_catalog.specs.zones.Zones.{ChangesAt, HasZone, ZoneChains}
 use Rattle.hickory_server.specs.server.ServedBy.{IsMessageOf, ServedBy}
 use Rattle.hickory_server.specs.zone_handler.ZoneReplies.{SaysTheReply}
 use Rattle.hickory_server.specs.declared.server.answer.Answer.{Answer}
 use Rattle.hickory_server.specs.declared.server.rules.Rules.{Rules}
 use Rattle.hickory_server.specs.declared.server.serve.Incoming.{Incoming}
 use Rattle.hickory_server.specs.declared.server.serve.ServeError.{ServeError}
-use Rattle.served_zones.specs.LoadedZones.{AreLoaded, IsLoadedChain, IsPlainQuery, IsSaidBy, LoadedZonesReply, LoadedZonesStay, PlainQueriesAreRead, by_none, by_zone}
-use Rattle.served_zones.specs.ServedZones.{Chain, IsChain, IsLoadedAs, IsZoneOfFile, ServedHandler, loaded}
+use Rattle.served_zones.specs.Given.{AreGiven, Gives, HandlerGiven, updated}
+use Rattle.served_zones.specs.Grants.{rules_for}
+use Rattle.served_zones.specs.ServedQueries.{AreAlone, IsPlainQuery, IsSaidBy, IsSaidByZone, IsZoneAlone, MakesUpdate, PlainQueriesAreRead, QueriesAreAnswered, ZonesAreUpdated, by_failure, by_none, by_reply, by_zone}
+use Rattle.served_zones.specs.ServedZones.{Chain, IsLoadedAs, IsZoneOfFile, ServedHandler, loaded}
+use Rattle.served_zones.specs.ZoneChanges.{FirstChanges}
+use Rattle.served_zones.specs.ZoneChanges.ChangeInTurn.{none}
+use Rattle.served_zones.specs.ZoneChanges.ChangeInTurn.{more as one_more}
+use Rattle.served_zones.specs.declared.grants.Grant.{Grant}
 use Rattle.signed_server.specs.ServedWithKeys.{LeavesWithKeys, ServedWithKeys, course_of}
 use Rattle.signed_server.specs.ServedWithKeys.ServedWithKeys.{bad, good, plain, unjudged, unreadable}
 use Rattle.signed_server.specs.declared.placeholders.LeftToServer.{LeftToServer}
@@ -34,8 +40,15 @@ use Rattle.signed_server.specs.declared.service.Course.{Course}
 use Rattle.signed_server.specs.declared.service.Course.TheVariants.{Plain, Refuse, Sign}
 use Rattle.tsig.specs.declared.judgement.Judgement.{Judgement}
 use Rattle.tsig.specs.declared.judgement.Judgement.TheVariants.{Unsigned}
-use Rattle.server.specs.Run.{Answers, Event, Happens, IsAsBefore, IsSaidOf, IsUnsigned, RepliesAreOfTheFiles, Run, arrived, files_of, keyed, new, next, no_file, of_file}
-use Rattle.server.specs.Run.Event.{identifier_set, keys_set, max_udp_set, message_came, network_allowed, network_denied, rate_set, transfer_key_allowed, transfers_allowed, transfers_denied, zone_added}
+use Rattle.tsig.specs.declared.keys.Key.{Key}
+use Rattle.tsig.specs.declared.verifier.TsigVerifier.{TsigVerifier}
+use Rattle.update_policy.specs.declared.policy.Rule.{Rule}
+use Rattle.hickory_store.specs.declared.updates.verifier.Verifier.{Ghosts as Verifies}
+use Rattle.hickory_zone.specs.Zones.{AreOwners}
+use Rattle.zones.specs.ZoneStates.{ZoneState}
+use Rattle.zones.specs.ZoneUpdates.{Updates}
+use Rattle.server.specs.Run.{Answers, Event, FilesReply, Happens, IsAsBefore, IsOfRun, IsSaidOf, IsUnsigned, IsZoneAfter, RepliesAreOfTheFiles, Run, arrived, files_of, gets_rules, goes_on, keyed, loads, of_file, of_no_file, starts, takes_update}
+use Rattle.server.specs.Run.Event.{identifier_set, keys_set, max_udp_set, message_came, network_allowed, network_denied, rate_set, rule_added, rules_given, transfer_key_allowed, transfers_allowed, transfers_denied, zone_added}
 use Rattle.server.specs.Settings.{rules_of, zones_of}
 use Rattle.server.specs.declared.service.Service.{Service}
 
@@ -58,108 +71,228 @@ any_of xs x among holds = (among.0, x, among.1, among.2, holds)
 
 -- ---- zones of files
 
-abbrev Files : Type 0
-Files = List (DomainName × List ℕ)
+state_of : ZoneState TsigVerifier → Chain → ZoneState TsigVerifier
+state_of other [] = other
+state_of other (Left zone ∷ rest) = zone
+state_of other (Right list ∷ rest) = other
 
--- The zone is that of one of these files, as it was loaded.
-pub record IsOfAFile (files : Files) (served : DomainName × Chain) : Type 0 where
+-- The zone is that of a file that these events added, after updates of the messages among them.
+pub record IsOfAFile (by : Verifies TsigVerifier) (events : List Event) (served : DomainName × Chain) : Type 0 where
   pub apex : DomainName
   pub file : List ℕ
-  pub zone : MemoryZone
-  pub among : Contains files (apex, file)
+  pub requests : List TimedRequest
+  pub zone : ZoneState TsigVerifier
+  pub among : Contains (files_of events) (apex, file)
   pub same : SameName served.0 apex
-  pub of_file : IsZoneOfFile file apex zone
-  pub chain : served.1 ≡ Left (loaded zone) ∷ []
+  pub after : IsZoneAfter by file apex requests zone
+  pub of_run : All (IsOfRun events) requests
+  pub chain : served.1 ≡ Left zone ∷ []
 
 -- Each zone is that of a file, and there is one for each file.
-pub record AreOfFiles (files : Files) (zones : ZoneChains ServedHandler) : Type 0 where
-  pub from_files : All (IsOfAFile files) zones
-  pub served : All (λ file. HasZone zones file.0) files
+pub record AreOfFiles (by : Verifies TsigVerifier) (events : List Event) (zones : ZoneChains ServedHandler) : Type 0 where
+  pub from_files : All (IsOfAFile by events) zones
+  pub served : All (λ file. HasZone zones file.0) (files_of events)
 
-owners_of : (files : Files) (served : DomainName × Chain) → IsOfAFile files served → IsLoadedChain served.1
-owners_of files served is = let (records, is_file, is_made, owners) = is.of_file in (is.zone, is.chain, owners)
+module _ (by : Verifies TsigVerifier) where
+  alone_of : (events : List Event) (served : DomainName × Chain) → IsOfAFile by events served → IsZoneAlone served.1
+  alone_of events served is = (is.zone, is.chain)
 
-are_loaded : (files : Files) (zones : ZoneChains ServedHandler) → AreOfFiles files zones → AreLoaded zones
-are_loaded files zones are = All-weaker (IsOfAFile files) (λ (served : DomainName × Chain). IsLoadedChain served.1) (owners_of files) zones are.from_files
+  are_alone : (events : List Event) (zones : ZoneChains ServedHandler) → AreOfFiles by events zones → AreAlone zones
+  are_alone events zones are = All-weaker (IsOfAFile by events) (λ (served : DomainName × Chain). IsZoneAlone served.1) (alone_of events) zones are.from_files
 
--- one more file
-more_files : (files : Files) (file : DomainName × List ℕ) (served : DomainName × Chain) → IsOfAFile files served → IsOfAFile (file ∷ files) served
-more_files files file served is = record {
-  apex = is.apex;
-  file = is.file;
-  zone = is.zone;
-  among = Contains-append_right (file ∷ []) files (is.apex, is.file) is.among;
-  same = is.same;
-  of_file = is.of_file;
-  chain = is.chain;
-}
-
-module _ (files : Files) (name file : List ℕ) (apex : DomainName) (old after : ZoneChains ServedHandler) (are : AreOfFiles files old) (loads : IsLoadedAs (IsZoneOfFile file) name None apex old after) where
-  abbrev more : Files
-  more = (apex, file) ∷ files
-
-  kept_before : (served : DomainName × Chain) → Contains (loads.changed.lesser ++ loads.changed.greater) served → IsOfAFile more served
-  kept_before served among =
-      let before = subst (λ (zs : ZoneChains ServedHandler). Contains zs served) (sym loads.changed.before) among in
-      more_files files (apex, file) served (All-contains (IsOfAFile files) old served are.from_files before)
-
-  same_apex : SameName loads.changed.apex apex
-  same_apex = as_spelled loads.changed.apex apex loads.changed.same
-
-  the_new : IsOfAFile more (loads.changed.apex, loads.chain)
-  the_new = record {
-    apex = apex;
-    file = file;
-    zone = loads.zone;
-    among = (0, omega arith, refl);
-    same = same_apex;
-    of_file = loads.of_file;
-    chain = loads.chained;
+  -- one more event
+  more_run : (events : List Event) (event : Event) (update : TimedRequest) → IsOfRun events update → IsOfRun (event ∷ events) update
+  more_run events event update is = record {
+    message = is.message;
+    outcome = is.outcome;
+    came = Contains-append_right (event ∷ []) events (message_came is.message is.outcome) is.came;
+    is_request = is.is_request;
+    is_update = is.is_update;
+    moment = is.moment;
   }
 
-  each_by : (served : DomainName × Chain) → Contains (loads.changed.lesser ++ ((loads.changed.apex, loads.chain) ∷ loads.changed.greater)) served → IsOfAFile more served
-  each_by served among = by (Contains-append_cases loads.changed.lesser ((loads.changed.apex, loads.chain) ∷ loads.changed.greater) served among) where
-    by_place : ((loads.changed.apex, loads.chain) ≡ served) ⊎ Contains loads.changed.greater served → IsOfAFile more served
-    by_place (inl same) = subst (IsOfAFile more) same the_new
-    by_place (inr behind) = kept_before served (Contains-append_right loads.changed.lesser loads.changed.greater served behind)
-
-    by : Contains loads.changed.lesser served ⊎ Contains ((loads.changed.apex, loads.chain) ∷ loads.changed.greater) served → IsOfAFile more served
-    by (inl left) = kept_before served (Contains-append_left loads.changed.lesser loads.changed.greater served left)
-    by (inr right) = by_place (contains_cases (loads.changed.apex, loads.chain) served loads.changed.greater right)
-
-  each : (served : DomainName × Chain) → Contains after served → IsOfAFile more served
-  each served among = each_by served (subst (λ (zs : ZoneChains ServedHandler). Contains zs served) loads.changed.after among)
-
-  there : (served : DomainName × Chain) → Contains (loads.changed.lesser ++ ((loads.changed.apex, loads.chain) ∷ loads.changed.greater)) served → Contains after served
-  there served among = subst (λ (zs : ZoneChains ServedHandler). Contains zs served) (sym loads.changed.after) among
-
-  still : (served : DomainName × Chain) → Contains old served → Contains after served
-  still served among = by (Contains-append_cases loads.changed.lesser loads.changed.greater served (subst (λ (zs : ZoneChains ServedHandler). Contains zs served) loads.changed.before among)) where
-    by : Contains loads.changed.lesser served ⊎ Contains loads.changed.greater served → Contains after served
-    by (inl left) = there served (Contains-append_left loads.changed.lesser _ served left)
-    by (inr right) = there served (Contains-append_right loads.changed.lesser _ served (contains_behind (loads.changed.apex, loads.chain) served loads.changed.greater right))
-
-  still_has : (one : DomainName × List ℕ) → HasZone old one.0 → HasZone after one.0
-  still_has one (k, served, within, at, same) = any_of after served (still served (k, within, at)) same
-
-  has_new : HasZone after apex
-  has_new = any_of after (loads.changed.apex, loads.chain) (there (loads.changed.apex, loads.chain) (Contains-append_right loads.changed.lesser _ _ (0, omega arith, refl))) same_apex
-
-  pub are_more : AreOfFiles more after
-  are_more = record {
-    from_files = All-weaker (Contains after) (IsOfAFile more) each after (All-contains_itself after);
-    served = All-cons (λ (one : DomainName × List ℕ). HasZone after one.0) (apex, file) files has_new
-    (All-weaker (λ (one : DomainName × List ℕ). HasZone old one.0) (λ (one : DomainName × List ℕ). HasZone after one.0) still_has files are.served);
+  more_events : (events : List Event) (event : Event) → ((one : DomainName × List ℕ) → Contains (files_of events) one → Contains (files_of (event ∷ events)) one) → (served : DomainName × Chain) → IsOfAFile by events served → IsOfAFile by (event ∷ events) served
+  more_events events event files served is = record {
+    apex = is.apex;
+    file = is.file;
+    requests = is.requests;
+    zone = is.zone;
+    among = files (is.apex, is.file) is.among;
+    same = is.same;
+    after = is.after;
+    of_run = All-weaker (IsOfRun events) (IsOfRun (event ∷ events)) (more_run events event) is.requests is.of_run;
+    chain = is.chain;
   }
+
+  -- ---- a zone is added
+
+  module _ (events : List Event) (name file : List ℕ) (apex : DomainName) (old after : ZoneChains ServedHandler) (are : AreOfFiles by events old) (loads_as : IsLoadedAs (IsZoneOfFile file) name None apex old after) where
+    abbrev more : List Event
+    more = zone_added name file apex ∷ events
+
+    changed : ChangesAt old (lower_name apex) None (Some loads_as.chain) after
+    changed = loads_as.changed
+
+    kept_before : (served : DomainName × Chain) → Contains (changed.lesser ++ changed.greater) served → IsOfAFile by more served
+    kept_before served among =
+        let before = subst (λ (zs : ZoneChains ServedHandler). Contains zs served) (sym changed.before) among in
+        more_events events (zone_added name file apex) (λ one. Contains-append_right ((apex, file) ∷ []) (files_of events) one) served (All-contains (IsOfAFile by events) old served are.from_files before)
+
+    same_apex : SameName changed.apex apex
+    same_apex = as_spelled changed.apex apex changed.same
+
+    the_new : IsOfAFile by more (changed.apex, loads_as.chain)
+    the_new = record {
+      apex = apex;
+      file = file;
+      requests = [];
+      zone = loaded loads_as.zone;
+      among = (0, omega arith, refl);
+      same = same_apex;
+      after = loads loads_as.of_file;
+      of_run = All-nil (IsOfRun more);
+      chain = loads_as.chained;
+    }
+
+    each_by : (served : DomainName × Chain) → Contains (changed.lesser ++ ((changed.apex, loads_as.chain) ∷ changed.greater)) served → IsOfAFile by more served
+    each_by served among = from (Contains-append_cases changed.lesser ((changed.apex, loads_as.chain) ∷ changed.greater) served among) where
+      from_place : ((changed.apex, loads_as.chain) ≡ served) ⊎ Contains changed.greater served → IsOfAFile by more served
+      from_place (inl same) = subst (IsOfAFile by more) same the_new
+      from_place (inr behind) = kept_before served (Contains-append_right changed.lesser changed.greater served behind)
+
+      from : Contains changed.lesser served ⊎ Contains ((changed.apex, loads_as.chain) ∷ changed.greater) served → IsOfAFile by more served
+      from (inl left) = kept_before served (Contains-append_left changed.lesser changed.greater served left)
+      from (inr right) = from_place (contains_cases (changed.apex, loads_as.chain) served changed.greater right)
+
+    each : (served : DomainName × Chain) → Contains after served → IsOfAFile by more served
+    each served among = each_by served (subst (λ (zs : ZoneChains ServedHandler). Contains zs served) changed.after among)
+
+    there : (served : DomainName × Chain) → Contains (changed.lesser ++ ((changed.apex, loads_as.chain) ∷ changed.greater)) served → Contains after served
+    there served among = subst (λ (zs : ZoneChains ServedHandler). Contains zs served) (sym changed.after) among
+
+    still : (served : DomainName × Chain) → Contains old served → Contains after served
+    still served among = from (Contains-append_cases changed.lesser changed.greater served (subst (λ (zs : ZoneChains ServedHandler). Contains zs served) changed.before among)) where
+      from : Contains changed.lesser served ⊎ Contains changed.greater served → Contains after served
+      from (inl left) = there served (Contains-append_left changed.lesser _ served left)
+      from (inr right) = there served (Contains-append_right changed.lesser _ served (contains_behind (changed.apex, loads_as.chain) served changed.greater right))
+
+    still_has : (one : DomainName × List ℕ) → HasZone old one.0 → HasZone after one.0
+    still_has one (k, served, within, at, same) = any_of after served (still served (k, within, at)) same
+
+    has_new : HasZone after apex
+    has_new = any_of after (changed.apex, loads_as.chain) (there (changed.apex, loads_as.chain) (Contains-append_right changed.lesser _ _ (0, omega arith, refl))) same_apex
+
+    pub are_more : AreOfFiles by more after
+    are_more = record {
+      from_files = All-weaker (Contains after) (IsOfAFile by more) each after (All-contains_itself after);
+      served = All-cons (λ (one : DomainName × List ℕ). HasZone after one.0) (apex, file) (files_of events) has_new
+      (All-weaker (λ (one : DomainName × List ℕ). HasZone old one.0) (λ (one : DomainName × List ℕ). HasZone after one.0) still_has (files_of events) are.served);
+    }
+
+  -- ---- a zone changes
+
+  module _ (events : List Event) (name : DomainName) (was is : Chain) (old after : ZoneChains ServedHandler) (changed : ChangesAt old name (Some was) (Some is) after) (are : AreOfFiles by events old)
+      (becomes : (apex : DomainName) → IsOfAFile by events (apex, was) → IsOfAFile by events (apex, is)) where
+    before : (served : DomainName × Chain) → Contains (changed.lesser ++ ((changed.apex, was) ∷ changed.greater)) served → IsOfAFile by events served
+    before served among = All-contains (IsOfAFile by events) old served are.from_files (subst (λ (zs : ZoneChains ServedHandler). Contains zs served) (sym changed.before) among)
+
+    the_changed : IsOfAFile by events (changed.apex, is)
+    the_changed = becomes changed.apex (before (changed.apex, was) (Contains-append_right changed.lesser _ _ (0, omega arith, refl)))
+
+    each_after : (served : DomainName × Chain) → Contains after served → IsOfAFile by events served
+    each_after served among = from (Contains-append_cases changed.lesser ((changed.apex, is) ∷ changed.greater) served (subst (λ (zs : ZoneChains ServedHandler). Contains zs served) changed.after among)) where
+      from_place : ((changed.apex, is) ≡ served) ⊎ Contains changed.greater served → IsOfAFile by events served
+      from_place (inl same) = subst (IsOfAFile by events) same the_changed
+      from_place (inr behind) = before served (Contains-append_right changed.lesser _ served (contains_behind (changed.apex, was) served changed.greater behind))
+
+      from : Contains changed.lesser served ⊎ Contains ((changed.apex, is) ∷ changed.greater) served → IsOfAFile by events served
+      from (inl left) = before served (Contains-append_left changed.lesser _ served left)
+      from (inr right) = from_place (contains_cases (changed.apex, is) served changed.greater right)
+
+    still_there : (served : DomainName × Chain) → Contains old served → (other : Chain) × Contains after (served.0, other)
+    still_there served among = from (Contains-append_cases changed.lesser ((changed.apex, was) ∷ changed.greater) served (subst (λ (zs : ZoneChains ServedHandler). Contains zs served) changed.before among)) where
+      placed : (one : DomainName × Chain) → Contains (changed.lesser ++ ((changed.apex, is) ∷ changed.greater)) one → Contains after one
+      placed one at = subst (λ (zs : ZoneChains ServedHandler). Contains zs one) (sym changed.after) at
+
+      from_place : ((changed.apex, was) ≡ served) ⊎ Contains changed.greater served → (other : Chain) × Contains after (served.0, other)
+      from_place (inl same) = (is, subst (λ (one : DomainName × Chain). Contains after (one.0, is)) same (placed (changed.apex, is) (Contains-append_right changed.lesser _ _ (0, omega arith, refl))))
+      from_place (inr behind) = (served.1, placed served (Contains-append_right changed.lesser _ served (contains_behind (changed.apex, is) served changed.greater behind)))
+
+      from : Contains changed.lesser served ⊎ Contains ((changed.apex, was) ∷ changed.greater) served → (other : Chain) × Contains after (served.0, other)
+      from (inl left) = (served.1, placed served (Contains-append_left changed.lesser _ served left))
+      from (inr right) = from_place (contains_cases (changed.apex, was) served changed.greater right)
+
+    has_still : (one : DomainName × List ℕ) → HasZone old one.0 → HasZone after one.0
+    has_still one (k, served, within, at, same) = let t = still_there served (k, within, at) in any_of after (served.0, t.0) t.1 same
+
+    pub are_changed : AreOfFiles by events after
+    are_changed = record {
+      from_files = All-weaker (Contains after) (IsOfAFile by events) each_after after (All-contains_itself after);
+      served = All-weaker (λ (one : DomainName × List ℕ). HasZone old one.0) (λ (one : DomainName × List ℕ). HasZone after one.0) has_still (files_of events) are.served;
+    }
+
+  -- ---- zones get their rules
+
+  module _ (events : List Event) where
+    with_rules_of : (keys : List Key) (rules : List Rule) (was is : Chain) → FirstChanges (HandlerGiven keys rules) was is → (apex : DomainName) → IsOfAFile by events (apex, was) → IsOfAFile by events (apex, is)
+    with_rules_of keys rules was is (inl (none, empty)) apex of = let chain = of.chain in let no : Left of.zone ∷ [] ≡ [] = sym chain ∙ none in absurd cc
+    with_rules_of keys rules was is (inr first) apex of =
+        let lone : first.before ∷ first.rest ≡ Left of.zone ∷ [] = sym first.was ∙ of.chain in
+        let head : first.before ≡ Left of.zone = cc in
+        let rest : first.rest ≡ [] = cc in
+        let given : first.after ≡ Left (updated keys rules of.zone) = subst (λ (h : ServedHandler). HandlerGiven keys rules h first.after) head first.changes in
+        record {
+          apex = of.apex;
+          file = of.file;
+          requests = of.requests;
+          zone = updated keys rules of.zone;
+          among = of.among;
+          same = of.same;
+          after = gets_rules of.after;
+          of_run = of.of_run;
+          chain = first.is ∙ ap (λ (h : ServedHandler). h ∷ first.rest) given ∙ ap (λ (hs : Chain). Left (updated keys rules of.zone) ∷ hs) rest;
+        }
+
+    given_one : (keys : List Key) (rules : List Rule) (apex : DomainName) (old after : ZoneChains ServedHandler) → Gives keys rules apex old after → AreOfFiles by events old → AreOfFiles by events after
+    given_one keys [] apex old after same are = subst (λ (zs : ZoneChains ServedHandler). AreOfFiles by events zs) (sym same) are
+    given_one keys (rule ∷ rules) apex old after (inl one) are =
+        are_changed events (lower_name apex) one.before one.after old after one.changed are (with_rules_of keys (rule ∷ rules) one.before one.after one.changes)
+    given_one keys (rule ∷ rules) apex old after (inr (none, same)) are = subst (λ (zs : ZoneChains ServedHandler). AreOfFiles by events zs) (sym same) are
+
+    pub given_all : (keys : List Key) (grants : List Grant) (apexes : List DomainName) (old after : ZoneChains ServedHandler) → AreGiven keys grants apexes old after → AreOfFiles by events old → AreOfFiles by events after
+    given_all keys grants apexes old after none are = are
+    given_all keys grants apexes old after (one_more {between = between} apex before gives) are =
+        given_one keys (rules_for grants apex) apex between after gives (given_all keys grants _ old between before are)
+
+  -- ---- a message makes an update
+
+  updated_so : (events : List Event) (message : Incoming) (outcome : Result Answer ServeError) (old after : ZoneChains ServedHandler) → MakesUpdate by message old after
+      → AreOfFiles by (message_came message outcome ∷ events) old → AreOfFiles by (message_came message outcome ∷ events) after
+  updated_so events message outcome old after makes are =
+      are_changed now_events makes.name (Left makes.was ∷ []) (Left makes.is ∷ []) old after makes.changed are becomes where
+    now_events : List Event
+    now_events = message_came message outcome ∷ events
+
+    becomes : (apex : DomainName) → IsOfAFile by now_events (apex, Left makes.was ∷ []) → IsOfAFile by now_events (apex, Left makes.is ∷ [])
+    becomes apex of =
+        let both = of.chain in
+        let same : makes.was ≡ of.zone = ap (state_of makes.was) both in
+        record {
+          apex = of.apex;
+          file = of.file;
+          requests = (makes.request, message.now) ∷ of.requests;
+          zone = makes.is;
+          among = of.among;
+          same = of.same;
+          after = takes_update of.after (subst (λ (z : ZoneState TsigVerifier). Updates by z (makes.request, message.now) (Ok makes.answer) makes.context makes.is) same makes.updates);
+          of_run = All-cons (IsOfRun now_events) (makes.request, message.now) of.requests
+          (record { message = message; outcome = outcome; came = (0, omega arith, refl); is_request = makes.is_request; is_update = makes.is_update; moment = refl }) of.of_run;
+          chain = refl;
+        }
 
 -- ---- what is said of the zones is said of the files
 
-memory_of : MemoryZone → Chain → MemoryZone
-memory_of other [] = other
-memory_of other (Left zone ∷ rest) = zone.updatable.zone
-memory_of other (Right list ∷ rest) = other
-
-module _ (files : Files) (zones : ZoneChains ServedHandler) (are : AreOfFiles files zones) (request : ReceivedRequest) (question : Query) where
+module _ (by : Verifies TsigVerifier) (events : List Event) (zones : ZoneChains ServedHandler) (are : AreOfFiles by events zones) (request : ReceivedRequest) (question : Query) where
   abbrev asked : DomainName
   asked = lower_name question.name
 
@@ -174,96 +307,115 @@ module _ (files : Files) (zones : ZoneChains ServedHandler) (are : AreOfFiles fi
       (may_as one.0 served.0 asked (same_back served.0 one.0 same) may) in
       omega (arith, longest, same_length served.0 one.0 same, same_length apex file_apex spelled)
 
-  pub said_of : (contents : Contents) → IsSaidBy zones request question contents → IsSaidOf files request question contents
+  pub said_of : (contents : Contents) → IsSaidBy zones request question contents → IsSaidOf by events request question contents
   said_of contents (by_none none is) =
-      no_file (All-weaker (λ (one : DomainName × List ℕ). HasZone zones one.0) (λ (one : DomainName × List ℕ). ¬ (MayAnswer one.0 asked))
-      (no_file_may (λ served among. All-contains (λ (z : DomainName × Chain). ¬ (MayAnswer z.0 asked)) zones served none among)) files are.served) is
+      of_no_file (All-weaker (λ (one : DomainName × List ℕ). HasZone zones one.0) (λ (one : DomainName × List ℕ). ¬ (MayAnswer one.0 asked))
+      (no_file_may (λ served among. All-contains (λ (z : DomainName × Chain). ¬ (MayAnswer z.0 asked)) zones served none among)) (files_of events) are.served) is
   said_of contents (by_zone {apex = apex} {chain = chain} {zone = zone} nearest chain_is says) =
-      let is : IsOfAFile files (apex, chain) = All-contains (IsOfAFile files) zones (apex, chain) are.from_files nearest.among in
-      let one : zone ≡ is.zone = ap (memory_of zone) (sym chain_is ∙ is.chain) in
-      of_file {apex = is.apex} {file = is.file} {zone = is.zone}
+      let is : IsOfAFile by events (apex, chain) = All-contains (IsOfAFile by events) zones (apex, chain) are.from_files nearest.among in
+      let one : zone ≡ is.zone = ap (state_of zone) (sym chain_is ∙ is.chain) in
+      of_file {apex = is.apex} {file = is.file} {requests = is.requests} {zone = is.zone}
       (record {
         among = is.among;
         may_answer = may_as apex is.apex asked is.same nearest.may_answer;
         longest = All-weaker (λ (other : DomainName × List ℕ). HasZone zones other.0) (λ (other : DomainName × List ℕ). MayAnswer other.0 asked → length other.0.labels ≤ length is.apex.labels)
-        (no_longer apex chain is.apex nearest is.same) files are.served;
+        (no_longer apex chain is.apex nearest is.same) (files_of events) are.served;
       })
-      is.of_file (subst (λ (z : MemoryZone). SaysTheReply z request question contents) one says)
+      is.after is.of_run (subst (λ (z : ZoneState TsigVerifier). IsSaidByZone z.updatable.zone request question contents) one says)
 
 -- ---- the run
 
 -- what holds of a server after these events
-pub record Holds (events : List Event) (service : Service) : Type 0 where
-  pub zones : AreOfFiles (files_of events) (zones_of service)
+pub record Holds (by : Verifies TsigVerifier) (events : List Event) (service : Service) : Type 0 where
+  pub zones : AreOfFiles by events (zones_of service)
   pub no_list : service.list ≡ None
 
-module _ (handler : Ghosts ServedHandler) (signature_for : LeftToServer → Signer) (reply : LoadedZonesReply handler signature_for) (stay : LoadedZonesStay handler signature_for) (read : PlainQueriesAreRead) where
+module _ (handler : Ghosts ServedHandler) (signature_for : LeftToServer → Signer) (by : Verifies TsigVerifier) (answered : QueriesAreAnswered handler signature_for) (follow : ZonesAreUpdated handler signature_for by) (read : PlainQueriesAreRead) where
   is_message : (message : Incoming) → IsMessageOf message.bytes.items message.src message.protocol message.now message
   is_message message = record { bytes_are = refl; source_is = refl; protocol_is = refl; now_is = refl }
 
-  -- no message changes the zones
-  module _ (service : Service) (are : AreLoaded (zones_of service)) (message : Incoming) (after : ZoneChains ServedHandler) where
-    by_answer : (rules : Rules) (answer : Answer) → ServedBy rules (server_of handler signature_for service.answering.server.server.catalog) message answer after → after ≡ zones_of service
-    by_answer rules answer served = (stay rules service.answering.server.server.catalog message after are).0 answer served
+  -- a message changes zones only by an update
+  module _ (service : Service) (are : AreAlone (zones_of service)) (message : Incoming) (after : ZoneChains ServedHandler) where
+    abbrev Follow : Type 0
+    Follow = (after ≡ zones_of service) ⊎ MakesUpdate by message (zones_of service) after
 
-    answered_stay : (answer : Answer) → ServedWithKeys (keyed handler signature_for service) (arrived message) answer after → after ≡ zones_of service
-    answered_stay answer (unjudged _ served) = by_answer (rules_of service) answer (served message (is_message message))
-    answered_stay answer (plain _ _ _ served) = by_answer (rules_of service) answer (served message (is_message message))
-    answered_stay answer (unreadable _ _ _ _ kept) = kept
-    answered_stay answer (good {served = first} {theirs = theirs} _ _ _ _ _ served _) = by_answer theirs first (served message (is_message message))
-    answered_stay answer (bad _ _ _ _ _ _ kept) = kept
+    by_answer : (rules : Rules) (answer : Answer) → ServedBy rules (server_of handler signature_for service.answering.server.server.catalog) message answer after → Follow
+    by_answer rules answer served = (follow rules service.answering.server.server.catalog message after are).0 answer served
 
-    left_stay : (e : ServeError) → LeavesWithKeys (keyed handler signature_for service) (arrived message) e after → after ≡ zones_of service
-    left_stay e (inl (memory, kept)) = kept
-    left_stay e (inr (inl leaves)) = (stay (rules_of service) service.answering.server.server.catalog message after are).1 e (leaves message (is_message message))
-    left_stay e (inr (inr (memory, judgement, theirs, for_key, answer, served))) = by_answer theirs answer (served message (is_message message))
+    follow_answer : (answer : Answer) → ServedWithKeys (keyed handler signature_for service) (arrived message) answer after → Follow
+    follow_answer answer (unjudged _ served) = by_answer (rules_of service) answer (served message (is_message message))
+    follow_answer answer (plain _ _ _ served) = by_answer (rules_of service) answer (served message (is_message message))
+    follow_answer answer (unreadable _ _ _ _ kept) = inl kept
+    follow_answer answer (good {served = first} {theirs = theirs} _ _ _ _ _ served _) = by_answer theirs first (served message (is_message message))
+    follow_answer answer (bad _ _ _ _ _ _ kept) = inl kept
 
-    outcome_stay : (outcome : Result Answer ServeError) → Answers handler signature_for service message outcome after → after ≡ zones_of service
-    outcome_stay (Ok answer) answers = answered_stay answer answers
-    outcome_stay (Err e) leaves = left_stay e leaves
+    follow_error : (e : ServeError) → LeavesWithKeys (keyed handler signature_for service) (arrived message) e after → Follow
+    follow_error e (inl (memory, kept)) = inl kept
+    follow_error e (inr (inl leaves)) = (follow (rules_of service) service.answering.server.server.catalog message after are).1 e (leaves message (is_message message))
+    follow_error e (inr (inr (memory, judgement, theirs, for_key, answer, served))) = by_answer theirs answer (served message (is_message message))
 
-  same_zones : (events : List Event) (old after : Service) → Holds events old → zones_of after ≡ zones_of old → after.list ≡ old.list → AreOfFiles (files_of events) (zones_of after) × (after.list ≡ None)
-  same_zones events old after holds zones list =
-      (subst (λ (zs : ZoneChains ServedHandler). AreOfFiles (files_of events) zs) (sym zones) holds.zones, list ∙ holds.no_list)
+    follow_outcome : (outcome : Result Answer ServeError) → Answers handler signature_for service message outcome after → Follow
+    follow_outcome (Ok answer) answers = follow_answer answer answers
+    follow_outcome (Err e) leaves = follow_error e leaves
+
+  -- what an event without a file leaves of the zones
+  longer : (events : List Event) (event : Event) (zones : ZoneChains ServedHandler) → files_of (event ∷ events) ≡ files_of events → AreOfFiles by events zones → AreOfFiles by (event ∷ events) zones
+  longer events event zones same are = record {
+    from_files = All-weaker (IsOfAFile by events) (IsOfAFile by (event ∷ events))
+    (more_events by events event (λ one among. subst (λ (files : List (DomainName × List ℕ)). Contains files one) (sym same) among)) zones are.from_files;
+    served = subst (λ (files : List (DomainName × List ℕ)). All (λ file. HasZone zones file.0) files) (sym same) are.served;
+  }
+
+  kept : (events : List Event) (event : Event) (old after : Service) → files_of (event ∷ events) ≡ files_of events → Holds by events old → zones_of after ≡ zones_of old → after.list ≡ old.list → Holds by (event ∷ events) after
+  kept events event old after same holds zones list = record {
+    zones = longer events event (zones_of after) same (subst (λ (zs : ZoneChains ServedHandler). AreOfFiles by events zs) (sym zones) holds.zones);
+    no_list = list ∙ holds.no_list;
+  }
 
   -- one more event
-  step : (events : List Event) (event : Event) (old after : Service) → Holds events old → Happens handler signature_for event old after → Holds (event ∷ events) after
-  step events (zone_added name file apex) old after holds (loads, apexes, others) =
+  step : (events : List Event) (event : Event) (old after : Service) → Holds by events old → Happens handler signature_for event old after → Holds by (event ∷ events) after
+  step events (zone_added name file apex) old after holds (loads_as, apexes, others) =
       record {
-        zones = are_more (files_of events) name file apex (zones_of old) (zones_of after) holds.zones
-        (subst (λ (list : Option _). IsLoadedAs (IsZoneOfFile file) name (option_map (λ it. it.value) list) apex (zones_of old) (zones_of after)) holds.no_list loads);
+        zones = are_more by events name file apex (zones_of old) (zones_of after) holds.zones
+        (subst (λ list. IsLoadedAs (IsZoneOfFile file) name (option_map (λ it. it.value) list) apex (zones_of old) (zones_of after)) holds.no_list loads_as);
         no_list = ap (λ (s : Service). s.list) others ∙ holds.no_list;
       }
-  step events (keys_set file) old after holds (keys, others) =
-      let s = same_zones events old after holds (ap zones_of others) (ap (λ (s : Service). s.list) others) in record { zones = s.0; no_list = s.1 }
+  step events (keys_set file) old after holds (keys, others) = kept events (keys_set file) old after refl holds (ap zones_of others) (ap (λ (s : Service). s.list) others)
   step events (transfer_key_allowed name) old after holds (key, denied, allowed, others) =
-      let s = same_zones events old after holds (ap zones_of others) (ap (λ (s : Service). s.list) others) in record { zones = s.0; no_list = s.1 }
-  step events (network_allowed network) old after holds (inserts, kept, others) =
-      let s = same_zones events old after holds (ap zones_of others) (ap (λ (s : Service). s.list) others) in record { zones = s.0; no_list = s.1 }
-  step events (network_denied network) old after holds (inserts, kept, others) =
-      let s = same_zones events old after holds (ap zones_of others) (ap (λ (s : Service). s.list) others) in record { zones = s.0; no_list = s.1 }
-  step events (transfers_allowed network) old after holds (inserts, kept, others) =
-      let s = same_zones events old after holds (ap zones_of others) (ap (λ (s : Service). s.list) others) in record { zones = s.0; no_list = s.1 }
-  step events (transfers_denied network) old after holds (inserts, kept, others) =
-      let s = same_zones events old after holds (ap zones_of others) (ap (λ (s : Service). s.list) others) in record { zones = s.0; no_list = s.1 }
-  step events (max_udp_set size) old after holds (enough, others) =
-      let s = same_zones events old after holds (ap zones_of others) (ap (λ (s : Service). s.list) others) in record { zones = s.0; no_list = s.1 }
-  step events (rate_set rate slip) old after holds (limits, others) =
-      let s = same_zones events old after holds (ap zones_of others) (ap (λ (s : Service). s.list) others) in record { zones = s.0; no_list = s.1 }
-  step events (identifier_set bytes) old after holds others =
-      let s = same_zones events old after holds (ap zones_of others) (ap (λ (s : Service). s.list) others) in record { zones = s.0; no_list = s.1 }
-  step events (message_came message outcome) old after holds (answers, before) =
-      let stays = outcome_stay old (are_loaded (files_of events) (zones_of old) holds.zones) message (zones_of after) outcome answers in
-      let s = same_zones events old after holds stays (ap (λ (s : Service). s.list) before.others) in record { zones = s.0; no_list = s.1 }
-
-  holds_after : (events : List Event) (service : Service) → Run handler signature_for events service → Holds events service
-  holds_after events service (new unset) =
+      kept events (transfer_key_allowed name) old after refl holds (ap zones_of others) (ap (λ (s : Service). s.list) others)
+  step events (rule_added zone rule) old after holds (grant, others) = kept events (rule_added zone rule) old after refl holds (ap zones_of others) (ap (λ (s : Service). s.list) others)
+  step events rules_given old after holds (served, others) =
       record {
-        zones = subst (λ (zs : ZoneChains ServedHandler). AreOfFiles [] zs) (sym unset.no_zones)
-        (record { from_files = All-nil (IsOfAFile []); served = All-nil (λ (one : DomainName × List ℕ). HasZone {V = Chain} [] one.0) });
+        zones = longer events rules_given (zones_of after) refl (given_all by events old.answering.server.keys old.grants.items old.apexes.items (zones_of old) (zones_of after) served.are_given holds.zones);
+        no_list = ap (λ (s : Service). s.list) others ∙ holds.no_list;
+      }
+  step events (network_allowed network) old after holds (inserts, same, others) = kept events (network_allowed network) old after refl holds (ap zones_of others) (ap (λ (s : Service). s.list) others)
+  step events (network_denied network) old after holds (inserts, same, others) = kept events (network_denied network) old after refl holds (ap zones_of others) (ap (λ (s : Service). s.list) others)
+  step events (transfers_allowed network) old after holds (inserts, same, others) = kept events (transfers_allowed network) old after refl holds (ap zones_of others) (ap (λ (s : Service). s.list) others)
+  step events (transfers_denied network) old after holds (inserts, same, others) = kept events (transfers_denied network) old after refl holds (ap zones_of others) (ap (λ (s : Service). s.list) others)
+  step events (max_udp_set size) old after holds (enough, others) = kept events (max_udp_set size) old after refl holds (ap zones_of others) (ap (λ (s : Service). s.list) others)
+  step events (rate_set rate slip) old after holds (limits, others) = kept events (rate_set rate slip) old after refl holds (ap zones_of others) (ap (λ (s : Service). s.list) others)
+  step events (identifier_set bytes) old after holds others = kept events (identifier_set bytes) old after refl holds (ap zones_of others) (ap (λ (s : Service). s.list) others)
+  step events (message_came message outcome) old after holds (answers, before) =
+      record {
+        zones = from (follow_outcome old (are_alone by events (zones_of old) holds.zones) message (zones_of after) outcome answers);
+        no_list = ap (λ (s : Service). s.list) before.others ∙ holds.no_list;
+      } where
+    were : AreOfFiles by (message_came message outcome ∷ events) (zones_of old)
+    were = longer events (message_came message outcome) (zones_of old) refl holds.zones
+
+    from : (zones_of after ≡ zones_of old) ⊎ MakesUpdate by message (zones_of old) (zones_of after) → AreOfFiles by (message_came message outcome ∷ events) (zones_of after)
+    from (inl same) = subst (λ (zs : ZoneChains ServedHandler). AreOfFiles by (message_came message outcome ∷ events) zs) (sym same) were
+    from (inr makes) = updated_so by events message outcome (zones_of old) (zones_of after) makes were
+
+  holds_after : (events : List Event) (service : Service) → Run handler signature_for events service → Holds by events service
+  holds_after events service (starts unset) =
+      record {
+        zones = subst (λ (zs : ZoneChains ServedHandler). AreOfFiles by [] zs) (sym unset.no_zones)
+        (record { from_files = All-nil (IsOfAFile by []); served = All-nil (λ (one : DomainName × List ℕ). HasZone {V = Chain} [] one.0) });
         no_list = unset.no_list;
       }
-  holds_after events service (next {events = earlier} {event = event} {old = old} run happens) = step earlier event old service (holds_after earlier old run) happens
+  holds_after events service (goes_on {events = earlier} {event = event} {old = old} run happens) = step earlier event old service (holds_after earlier old run) happens
 
   -- an unsigned query is served by the zones
   query_served : (service : Service) (message : Incoming) (question : Query) (answer : Answer) (after : ZoneChains ServedHandler) → IsPlainQuery (rules_of service) message question → IsUnsigned service.answering.server.keys message
@@ -276,11 +428,28 @@ module _ (handler : Ghosts ServedHandler) (signature_for : LeftToServer → Sign
   query_served service message question answer after is unsigned (bad {judgement = judgement} _ judged course _ _ _ _) =
       let no : ◌≡◌ {A = Course} Plain Refuse = sym (ap course_of (unsigned judgement judged)) ∙ course in absurd cc
 
-  pub of_files : RepliesAreOfTheFiles handler signature_for
+  pub of_files : RepliesAreOfTheFiles handler signature_for by
   of_files events service message question answer zones run is unsigned answers =
       let holds = holds_after events service run in
       let are = holds.zones in
-      let r = reply (rules_of service) service.answering.server.server.catalog message question answer zones (are_loaded (files_of events) (zones_of service) are) is
+      let r = answered (rules_of service) service.answering.server.server.catalog message question answer zones (are_alone by events (zones_of service) are) is
       (query_served service message question answer zones is unsigned answers) in
       let (request, is_request, contents, said, sent) = r in
-      (request, is_request, contents, said_of (files_of events) (zones_of service) are request question contents said, sent)
+      (request, is_request, contents, said_of by events (zones_of service) are request question contents said, sent)
+
+-- a zone that took no update
+zone_of_file : (by : Verifies TsigVerifier) (file : List ℕ) (apex : DomainName) (zone : ZoneState TsigVerifier) → IsZoneAfter by file apex [] zone → IsZoneOfFile file apex zone.updatable.zone
+zone_of_file by file apex zone (loads is) = is
+zone_of_file by file apex zone (gets_rules {zone = before} after) = zone_of_file by file apex before after
+
+pub files_reply : (by : Verifies TsigVerifier) → FilesReply by
+files_reply by file apex zone request question contents after said = (is, from said) where
+  is : IsZoneOfFile file apex zone.updatable.zone
+  is = zone_of_file by file apex zone after
+
+  owners : AreOwners zone.updatable.zone.origin zone.updatable.zone.sets
+  owners = let (records, is_file, is_made, all) = is in all
+
+  from : IsSaidByZone zone.updatable.zone request question contents → SaysTheReply zone.updatable.zone request question contents
+  from (by_reply _ says) = says
+  from (by_failure not _) = absurd (not owners)

@@ -1,12 +1,13 @@
--- One law from the bytes of the files and of a message to the bytes that leave. It is of a server in which nobody may
--- change a zone: no updates were allowed, no names were blocked, and no zone has a journal.
-use Rattle.std.specs.Prelude.{◌≡◌, ◌≤◌, ◌++◌, ◌∷◌, [], ℕ, List, Option, Some, None, Result, Ok, Err, option_map}
+-- One law from the bytes of zone files and messages to the bytes that leave. It is of servers that block no names, and
+-- whose zones have no journals.
+use Rattle.std.specs.Prelude.{◌≡◌, ◌==◌, ◌≤◌, ◌++◌, ◌∷◌, [], ℕ, All, Bool, Contains, List, Option, Some, None, Result, Ok, Err, option_map, true}
 use Rattle.wire_names.specs.rr.domain.DomainName.{DomainName}
 use Rattle.wire_names.specs.rr.domain.NameOrder.{lower_name}
-use Rattle.wire_messages.specs.Numbers.{code_refused}
+use Rattle.wire_messages.specs.Numbers.{code_refused, opcode_update}
 use Rattle.wire_messages.specs.declared.op.query.Query.{Query}
 use Rattle.server_limits.specs.Access.{Inserts, SameNetworks}
-use Rattle.hickory_base.specs.requests.Requests.{ReceivedRequest}
+use Rattle.hickory_base.specs.requests.Requests.{ReceivedRequest, TimedRequest}
+use Rattle.hickory_base.specs.zone_store.Lookups.{SignerContext}
 use Rattle.hickory_base.specs.zone_store.ZoneAnswers.{MemoryZone}
 use Rattle.hickory_base.specs.declared.zone_store.handler.ZoneHandler.{Ghosts}
 use Rattle.hickory_catalog.specs.replies.Replies.{Contents, error_contents}
@@ -20,8 +21,11 @@ use Rattle.hickory_server.specs.declared.server.answer.Answer.{Answer}
 use Rattle.hickory_server.specs.declared.server.serve.Incoming.{Incoming}
 use Rattle.hickory_server.specs.declared.server.serve.ServeError.{ServeError}
 use Rattle.served_keys.specs.ServedKeys.{AreKeysOfFile, IsKeyNamed, all_networks}
-use Rattle.served_zones.specs.LoadedZones.{IsPlainQuery, IsSentAlone}
-use Rattle.served_zones.specs.ServedZones.{IsLoadedAs, IsZoneOfFile, ServedHandler}
+use Rattle.served_zones.specs.Given.{updated}
+use Rattle.served_zones.specs.Grants.{IsGrantOf}
+use Rattle.served_zones.specs.ServedQueries.{IsPlainQuery, IsSaidByZone, IsSentAlone}
+use Rattle.served_zones.specs.ServedZones.{IsLoadedAs, IsZoneOfFile, ServedHandler, loaded}
+use Rattle.served_zones.specs.declared.grants.Grant.{Grant}
 use Rattle.signed_server.specs.KeyedServers.{KeyedServer, keyed_of}
 use Rattle.signed_server.specs.ServedWithKeys.{LeavesWithKeys, ServedWithKeys}
 use Rattle.signed_server.specs.declared.placeholders.LeftToServer.{LeftToServer}
@@ -29,10 +33,16 @@ use Rattle.tsig.specs.Judging.{Judged}
 use Rattle.tsig.specs.declared.judgement.Judgement.{Judgement}
 use Rattle.tsig.specs.declared.judgement.Judgement.TheVariants.{Unsigned}
 use Rattle.tsig.specs.declared.keys.Key.{Key}
+use Rattle.tsig.specs.declared.verifier.TsigVerifier.{TsigVerifier}
+use Rattle.update_policy.specs.declared.policy.Rule.{Rule}
+use Rattle.hickory_store.specs.declared.updates.verifier.Verifier.{Ghosts as Verifies}
+use Rattle.zones.specs.ZoneStates.{ZoneState}
+use Rattle.zones.specs.ZoneUpdates.{Updates}
 use Rattle.server.specs.Limited.{AreLimitsOf}
 use Rattle.server.specs.Networks.{InsertsText}
 use Rattle.server.specs.Serving.{Stays}
 use Rattle.server.specs.Settings.{IsUnset, rules_of, with_identifier, with_keys, with_rules, with_transfer_keys, with_zones, zones_of}
+use Rattle.server.specs.Updates.{AreServed}
 use Rattle.server.specs.declared.service.Service.{Service}
 
 -- a setting that a server took, or a message with what became of it
@@ -41,6 +51,9 @@ pub data Event : Type 0 where
   zone_added : (name file : List ℕ) (apex : DomainName) → Event
   keys_set : (file : List ℕ) → Event
   transfer_key_allowed : (name : List ℕ) → Event
+  -- the texts of the name of a zone and of a rule of its updates, and that the zones get their rules
+  rule_added : (zone rule : List ℕ) → Event
+  rules_given : Event
   network_allowed : (network : List ℕ) → Event
   network_denied : (network : List ℕ) → Event
   transfers_allowed : (network : List ℕ) → Event
@@ -56,7 +69,7 @@ files_of [] = []
 files_of (zone_added name file apex ∷ events) = (apex, file) ∷ files_of events
 files_of (other ∷ events) = files_of events
 
--- a message with its bytes
+-- a message as it came
 abbrev pub arrived : Incoming → Arrival
 arrived message = arrival message.bytes.items message.src message.protocol message.now
 
@@ -65,6 +78,24 @@ arrived message = arrival message.bytes.items message.src message.protocol messa
 pub record IsAsBefore (old new : Service) : Type 0 where
   pub stays : Stays old.answering.server new.answering.server
   pub others : new ≡ record old { answering = new.answering; counters = new.counters; limits = new.limits }
+
+-- The update is the request of a message that came.
+pub record IsOfRun (events : List Event) (update : TimedRequest) : Type 0 where
+  pub message : Incoming
+  pub outcome : Result Answer ServeError
+  pub came : Contains events (message_came message outcome)
+  pub is_request : IsRequestOf message update.0
+  pub is_update : (update.0.message.metadata.op_code == opcode_update) ≡ true
+  pub moment : update.1 ≡ message.now
+
+-- The zone of a file's bytes after updates, the last one first: each was answered `Ok` (RFC 2136), by the keys and rules
+-- that the zone had.
+pub data IsZoneAfter (by : Verifies TsigVerifier) (file : List ℕ) (apex : DomainName) : List TimedRequest → ZoneState TsigVerifier → Type 0 where
+  loads : {zone : MemoryZone} → IsZoneOfFile file apex zone → IsZoneAfter by file apex [] (loaded zone)
+  gets_rules : {requests : List TimedRequest} {zone : ZoneState TsigVerifier} {keys : List Key} {rules : List Rule} → IsZoneAfter by file apex requests zone
+      → IsZoneAfter by file apex requests (updated keys rules zone)
+  takes_update : {requests : List TimedRequest} {request : TimedRequest} {old new : ZoneState TsigVerifier} {changed : Bool} {context : SignerContext} → IsZoneAfter by file apex requests old
+      → Updates by old request (Ok changed) context new → IsZoneAfter by file apex (request ∷ requests) new
 
 module _ (handler : Ghosts ServedHandler) (signature_for : LeftToServer → Signer) where
   abbrev pub keyed : Service → KeyedServer ServedHandler
@@ -84,6 +115,9 @@ module _ (handler : Ghosts ServedHandler) (signature_for : LeftToServer → Sign
       × (new.answering.server.transfer_keys.items ≡ old.answering.server.transfer_keys.items ++ name ∷ []))
       × Inserts (rules_of old).transfers.deny all_networks (rules_of new).transfers.deny × SameNetworks (rules_of old).transfers.allow (rules_of new).transfers.allow
       × (new ≡ with_transfer_keys (with_rules old (record (rules_of old) { transfers = (rules_of new).transfers })) new.answering.server.transfer_keys)
+  Happens (rule_added zone rule) old new = ((grant : Grant) × IsGrantOf old.answering.server.keys zone rule grant × (new.grants.items ≡ old.grants.items ++ grant ∷ []))
+      × (new ≡ record old { grants = new.grants })
+  Happens rules_given old new = AreServed old.answering.server.keys old.grants.items old.apexes.items (zones_of old) (zones_of new) × (new ≡ with_zones old (zones_of new))
   Happens (network_allowed network) old new = InsertsText network (rules_of old).access.allow (rules_of new).access.allow
       × SameNetworks (rules_of old).access.deny (rules_of new).access.deny × (new ≡ with_rules old (record (rules_of old) { access = (rules_of new).access }))
   Happens (network_denied network) old new = InsertsText network (rules_of old).access.deny (rules_of new).access.deny
@@ -99,26 +133,33 @@ module _ (handler : Ghosts ServedHandler) (signature_for : LeftToServer → Sign
 
   -- What a server is after these settings and messages, of which the last one is the first of the list.
   pub data Run : List Event → Service → Type 0 where
-    new : {service : Service} → IsUnset service → Run [] service
-    next : {events : List Event} {event : Event} {old after : Service} → Run events old → Happens event old after → Run (event ∷ events) after
+    starts : {service : Service} → IsUnset service → Run [] service
+    goes_on : {events : List Event} {event : Event} {old after : Service} → Run events old → Happens event old after → Run (event ∷ events) after
 
 -- However the message is judged by these keys, it has no signature. Without keys none is judged.
 abbrev pub IsUnsigned : List Key → Incoming → Type 0
 IsUnsigned keys message = (judgement : Judgement) → Judged keys message.bytes.items message.now judgement → judgement ≡ Unsigned
 
 -- What the reply to a question says: REFUSED, if no file is of a zone for the name (RFC 1035 section 4.1.1); or what the
--- zone that the bytes of the nearest file make replies to the question (RFC 1034 section 4.3.2).
-pub data IsSaidOf (files : List (DomainName × List ℕ)) (request : ReceivedRequest) (question : Query) (contents : Contents) : Type 0 where
-  no_file : Finds files (lower_name question.name) None → contents ≡ error_contents request.message.metadata code_refused → IsSaidOf files request question contents
-  of_file : {apex : DomainName} {file : List ℕ} {zone : MemoryZone} → IsNearest files (lower_name question.name) (apex, file)
-      → IsZoneOfFile file apex zone → SaysTheReply zone request question contents → IsSaidOf files request question contents
+-- zone of the nearest file says, as the updates that came left it (RFC 1034 section 4.3.2).
+pub data IsSaidOf (by : Verifies TsigVerifier) (events : List Event) (request : ReceivedRequest) (question : Query) (contents : Contents) : Type 0 where
+  of_no_file : Finds (files_of events) (lower_name question.name) None → contents ≡ error_contents request.message.metadata code_refused → IsSaidOf by events request question contents
+  of_file : {apex : DomainName} {file : List ℕ} {requests : List TimedRequest} {zone : ZoneState TsigVerifier}
+      → IsNearest (files_of events) (lower_name question.name) (apex, file) → IsZoneAfter by file apex requests zone → All (IsOfRun events) requests
+      → IsSaidByZone zone.updatable.zone request question contents → IsSaidOf by events request question contents
 
 -- Whatever settings a server took and whatever messages it answered: an unsigned query that may use it has one reply,
--- the encoding of what the zone that the nearest file makes replies to the question.
-abbrev pub RepliesAreOfTheFiles : Ghosts ServedHandler → (LeftToServer → Signer) → Type 0
-RepliesAreOfTheFiles handler signature_for =
+-- which encodes what the zone of the nearest file says.
+abbrev pub RepliesAreOfTheFiles : Ghosts ServedHandler → (LeftToServer → Signer) → Verifies TsigVerifier → Type 0
+RepliesAreOfTheFiles handler signature_for by =
     (events : List Event) (service : Service) (message : Incoming) (question : Query) (answer : Answer) (zones : ZoneChains ServedHandler)
     → Run handler signature_for events service → IsPlainQuery (rules_of service) message question → IsUnsigned service.answering.server.keys message
     → Answers handler signature_for service message (Ok answer) zones
-    → (request : ReceivedRequest) × IsRequestOf message request × (contents : Contents) × IsSaidOf (files_of events) request question contents
+    → (request : ReceivedRequest) × IsRequestOf message request × (contents : Contents) × IsSaidOf by events request question contents
     × IsSentAlone (rules_of service) service.answering.server.server.catalog.nsid message request contents answer
+
+-- A zone that took no update says what the zone that its file's bytes make replies to the question.
+abbrev pub FilesReply : Verifies TsigVerifier → Type 0
+FilesReply by = (file : List ℕ) (apex : DomainName) (zone : ZoneState TsigVerifier) (request : ReceivedRequest) (question : Query) (contents : Contents)
+    → IsZoneAfter by file apex [] zone → IsSaidByZone zone.updatable.zone request question contents
+    → IsZoneOfFile file apex zone.updatable.zone × SaysTheReply zone.updatable.zone request question contents

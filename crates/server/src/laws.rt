@@ -1,20 +1,26 @@
 //! The law of whole servers, the contract of a function with nothing to do.
 
-ghost use Rattle.server.specs.Run.{RepliesAreOfTheFiles};
+ghost use Rattle.server.specs.Run.{FilesReply, RepliesAreOfTheFiles};
 
 use crate::service::Handler;
 use hickory_server::zone_handler::{ReplySigner, ZoneHandler};
+use hickory_store::updates::Verifier;
 use journal::host_file::HostFile;
-use served_zones::laws::loaded_zones;
+use served_zones::laws::served_queries;
 use signed_server::LeftToServer;
+use tsig::TsigVerifier;
 
-/// From the bytes of zone files and of a message to the bytes that leave: whatever settings a server took and whatever
-/// messages it answered, an unsigned query that may use it has one reply. It says what the zone that the nearest file
-/// makes replies to the question (RFC 1034 section 4.3.2), or REFUSED if no file is of a zone for the name.
+/// From the bytes of zone files and messages to the bytes that leave: whatever settings a server took and whatever
+/// messages it answered, an unsigned query that may use it has one reply. It says what the zone of the nearest file
+/// replies to the question (RFC 1034 section 4.3.2), as the updates that came left that zone (RFC 2136). It says
+/// REFUSED if no file is of a zone for the name.
 ///
-/// The premises: nobody may change a zone. No updates were allowed, no names were blocked, and no zone has a journal.
+/// The premises: the server blocks no names, and its zones have no journals. The query is of class IN and one question,
+/// and neither for a transfer nor for DS records.
 pub fn replies_are_of_the_files()
-    ensures { RepliesAreOfTheFiles ⟦<Handler as ZoneHandler>⟧ ⟦<LeftToServer as ReplySigner>⟧.signature_for }
+    ensures replies { RepliesAreOfTheFiles ⟦<Handler as ZoneHandler>⟧ ⟦<LeftToServer as ReplySigner>⟧.signature_for
+        ⟦<TsigVerifier as Verifier>⟧ }
+    ensures files { FilesReply ⟦<TsigVerifier as Verifier>⟧ }
 {
-    loaded_zones::<HostFile>();
+    served_queries::<HostFile>();
 }
