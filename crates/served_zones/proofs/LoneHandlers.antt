@@ -17,7 +17,7 @@ use Rattle.hickory_base.specs.declared.zone_store.handler.ZoneHandler.{Ghosts}
 use Rattle.hickory_base.specs.declared.zone_store.lookup.AuthLookup.{AuthLookup}
 use Rattle.hickory_base.specs.declared.zone_store.lookup.LookupControlFlow.TheVariants.{Continue, Skip}
 use Rattle.hickory_base.specs.declared.zone_store.lookup.LookupOptions.{LookupOptions}
-use Rattle.hickory_catalog.specs.queries.Queries.{AskedQuery, HandlerReply, QueryReplies, ZoneReplies, ZoneReply, consult_options, is_out_of_memory}
+use Rattle.hickory_catalog.specs.queries.Queries.{ChainReplies, HandlerReply, QueryReplies, ZoneReplies, ZoneReply, consult_options, is_out_of_memory}
 use Rattle.hickory_catalog.specs.queries.Queries as queries
 use Rattle.hickory_catalog.specs.queries.Transcripts.{Asked, ChainAnswers, Consulted, Follows, Given, all_consulted, answered, options_of, out_of_memory, skipped}
 use Rattle.hickory_catalog.specs.replies.Replies.{Contents, error_contents, unsigned_reply}
@@ -100,11 +100,17 @@ module _ {H : Type 0} (server : Server H) (r : ReceivedRequest) (question : Quer
   asked_is : (query : Query) → one_query r.message.queries.queries ≡ Ok query → query ≡ question
   asked_is query asks = let same : ◌≡◌ {A = Result Query LookupError} (Ok query) (Ok question) = sym asks ∙ one in cc
 
-  from_zone : (zone : DomainName × List H) → IsNearest server.zones (lower_name question.name) zone → (replies : List Reply)
-      → ZoneReplies server zone.1 (record { request = r; query = question }) edns now replies → IsOne server r question edns Says replies
-  from_zone zone nearest replies (queries.one {reply = reply} made is) =
-      let s = by_zone zone nearest.among reply made in (s.0, by_nearest zone nearest s.1, is ∙ ap (λ (x : Reply). x ∷ []) s.2)
-  from_zone zone nearest replies (queries.transfer transfer _ _) = absurd (false≢true (sym no_transfer ∙ transfer))
+  pub from_zone : (zone : DomainName × List H) → Contains server.zones zone → (replies : List Reply) → ZoneReplies server zone.1 (record { request = r; query = question }) edns now replies
+      → (contents : Contents) × Says zone contents × (replies ≡ unsigned_reply r.message edns contents ∷ [])
+  from_zone zone among replies (queries.one {reply = reply} made is) =
+      let s = by_zone zone among reply made in (s.0, s.1, is ∙ ap (λ (x : Reply). x ∷ []) s.2)
+  from_zone zone among replies (queries.transfer transfer _ _) = absurd (false≢true (sym no_transfer ∙ transfer))
+
+  pub chain_replied : (zone : DomainName × List H) → Contains server.zones zone → (replies : List Reply) → ChainReplies server zone.1 r edns now replies
+      → (contents : Contents) × Says zone contents × (replies ≡ unsigned_reply r.message edns contents ∷ [])
+  chain_replied zone among replies (queries.other_count {e = e} bad _) = let no : ◌≡◌ {A = Result Query LookupError} (Ok question) (Err e) = sym one ∙ bad in absurd cc
+  chain_replied zone among replies (queries.asked {query = query} asks made) =
+      from_zone zone among replies (subst (λ (q : Query). ZoneReplies server zone.1 (record { request = r; query = q }) edns now replies) (asked_is query asks) made)
 
   pub query_replied : (replies : List Reply) → QueryReplies server r edns now replies → IsOne server r question edns Says replies
   query_replied replies (queries.other_count {e = e} bad _) = let no : ◌≡◌ {A = Result Query LookupError} (Ok question) (Err e) = sym one ∙ bad in absurd cc
@@ -112,5 +118,6 @@ module _ {H : Type 0} (server : Server H) (r : ReceivedRequest) (question : Quer
       (error_contents r.message.metadata code_refused, by_nobody (subst (λ (q : Query). Finds server.zones (lower_name q.name) None) (asked_is query asks) none) refl, is)
   query_replied replies (queries.zone {query = query} {chain = chain} asks found made) =
       let same = asked_is query asks in
-      from_zone (found.0, chain) (subst (λ (q : Query). IsNearest server.zones (lower_name q.name) (found.0, chain)) same found.1) replies
-      (subst (λ (q : Query). ZoneReplies server chain (record { request = r; query = q }) edns now replies) same made)
+      let nearest = subst (λ (q : Query). IsNearest server.zones (lower_name q.name) (found.0, chain)) same found.1 in
+      let s = from_zone (found.0, chain) nearest.among replies (subst (λ (q : Query). ZoneReplies server chain (record { request = r; query = q }) edns now replies) same made) in
+      (s.0, by_nearest (found.0, chain) nearest s.1, s.2)

@@ -17,6 +17,7 @@ use Rattle.wire_reading.specs.declared.op.message.Message.{Message}
 use Rattle.hickory_base.specs.requests.Questions.{one_query}
 use Rattle.hickory_base.specs.requests.RequestReading.{message_of}
 use Rattle.hickory_base.specs.requests.Requests.{ReceivedRequest}
+use Rattle.hickory_base.specs.responses.EncodingSinks.{IsEncodingOf}
 use Rattle.hickory_base.specs.zone_store.Lookups.{Flow, SignerContext}
 use Rattle.hickory_base.specs.zone_store.ZoneAnswers.{MemoryZone}
 use Rattle.hickory_base.specs.declared.errors.LookupError.{LookupError}
@@ -38,18 +39,18 @@ use Rattle.hickory_server.proofs.lemmas.server.Above.{one_question}
 use Rattle.hickory_server.proofs.lemmas.server.Refusals.{looked_into, one_encoded, one_is}
 use Rattle.hickory_server.proofs.lemmas.zone_handler.MadeReplies.{made}
 use Rattle.hickory_server.specs.server.Ruling.{IsIncremental, IsOfServedClass, IsQuery, IsRefusedUpdate, IsRuling, IsTransfer, MayTransfer, udp_limit}
-use Rattle.hickory_server.specs.server.ServedBy.{AreSent}
-use Rattle.hickory_server.specs.server.ServedLaws.{IsLetThrough, IsSent, LetThroughSteps}
-use Rattle.hickory_server.specs.server.Serving.{IsRequestOf, Step}
-use Rattle.hickory_server.specs.server.Serving as serving
+use Rattle.hickory_server.specs.server.Above.{FindsAbove}
+use Rattle.hickory_server.specs.server.ServedBy.{AreSent, RequestServed, ZonesAnswer}
+use Rattle.hickory_server.specs.server.ServedBy as by_rules
+use Rattle.hickory_server.specs.server.ServedLaws as for_laws
+use Rattle.hickory_server.specs.server.Serving.{IsRequestOf}
 use Rattle.hickory_server.specs.declared.server.answer.Answer.{Answer}
 use Rattle.hickory_server.specs.declared.server.answer.Answer.TheVariants.{Replies}
 use Rattle.hickory_server.specs.declared.server.rules.Rules.{Rules}
-use Rattle.hickory_server.specs.declared.server.rules.Ruling.TheVariants.{Pass}
+use Rattle.hickory_server.specs.declared.server.rules.Ruling.TheVariants.{Pass, Refuse, Transfer, Truncate}
 use Rattle.hickory_server.specs.declared.server.serve.Incoming.{Incoming}
-use Rattle.hickory_server.specs.declared.server.serve.Outcome.{Outcome}
-use Rattle.served_zones.proofs.LoneHandlers.{Found, IsSaid, by_nearest, by_nobody, query_replied, replied_alone}
-use Rattle.served_zones.specs.ServedQueries.{AreAlone, IsPlainQuery, IsSaidBy, IsSaidByZone, IsSentAlone, IsZoneAlone, QueriesAreAnswered, by_failure, by_none, by_reply, by_zone}
+use Rattle.served_zones.proofs.LoneHandlers.{Found, IsSaid, by_nearest, by_nobody, chain_replied, query_replied, replied_alone}
+use Rattle.served_zones.specs.ServedQueries.{AreAlone, IsPlainQuery, IsSaidBy, IsSaidByZone, IsZoneAlone, QueriesAreAnswered, by_failure, by_none, by_reply, by_zone}
 use Rattle.served_zones.specs.ServedZones.{ServedHandler}
 use Rattle.tsig.specs.declared.verifier.TsigVerifier.{TsigVerifier}
 use Rattle.zones.specs.Laws.{OwnedZonesAreLookedUp}
@@ -82,17 +83,18 @@ module _ (same : (bytes : List ℕ) (m n : Message) → Reads bytes m → Reads 
     of_query : (query : Query) → query ≡ question → IsOfServedClass query × ¬ (IsIncremental query) × (IsTransfer query → MayTransfer rules r × ¬ (r.protocol ≡ protocols.Udp))
     of_query query one =
         subst (λ (q : Query). IsOfServedClass q × ¬ (IsIncremental q) × (IsTransfer q → MayTransfer rules r × ¬ (r.protocol ≡ protocols.Udp))) (sym one)
-        (inl plain.class, λ incremental. plain.no_transfer (inr incremental), λ transfer. absurd (plain.no_transfer transfer))
+        (plain.class, λ incremental. plain.no_transfer (inr incremental), λ transfer. absurd (plain.no_transfer transfer))
 
-  pub let_through : {V : Type 0} (zones : List (DomainName × V)) → IsLetThrough rules zones message
-  let_through {V} zones = record {
-    whole = plain.whole;
-    no_response = plain.no_response;
-    passes = passes;
-    not_above = λ r is zone asked.
-        let one : asked.asks.query ≡ question = one_question r.message asked.asks.query question asked.asks.is_query (read_so r is) in
-        plain.no_ds (sym (ap (λ (q : Query). q.query_type) one) ∙ asked.asks.is_ds);
-  }
+not_refused : (rules : Rules) (r : ReceivedRequest) → IsRuling rules r Pass → IsRuling rules r Refuse → ⊥
+not_refused rules r pass (query, inl (is, inl other)) = other (pass.0 query is).0
+not_refused rules r pass (query, inl (is, inr (transfer, may_not))) = may_not ((pass.0 query is).2 transfer).0
+not_refused rules r pass (zone, inr update) = pass.1 zone update
+
+not_truncated : (rules : Rules) (r : ReceivedRequest) → IsRuling rules r Pass → IsRuling rules r Truncate → ⊥
+not_truncated rules r pass (query, is, class, transfer, whole, may, udp) = ((pass.0 query is).2 transfer).1 udp
+
+not_transferred : (rules : Rules) (r : ReceivedRequest) → IsRuling rules r Pass → IsRuling rules r Transfer → ⊥
+not_transferred rules r pass (query, is, class, incremental, may) = (pass.0 query is).1 incremental
 
 -- ---- the zones
 
@@ -138,7 +140,7 @@ module _ (handler : Ghosts ServedHandler)
       by_failure not (subst (λ (found : Found). HandlerReply handler (Left zone) (handler.zone_type_of (Left zone)) (record { request = r; query = question }) found contents) is reply).0
   said zone r question result contents (inr none) in_memory reply = absurd (false≢true (sym in_memory ∙ ap is_out_of_memory none))
 
-  module _ {S : Type 0} (signature_for : S → Signer) (steps : LetThroughSteps handler signature_for) (same : (bytes : List ℕ) (m n : Message) → Reads bytes m → Reads bytes n → m ≡ n)
+  module _ {S : Type 0} (signature_for : S → Signer) (same : (bytes : List ℕ) (m n : Message) → Reads bytes m → Reads bytes n → m ≡ n)
       (no_fault : (bytes : List ℕ) (m : Message) (e : DecodeError) → Reads bytes m → Fault bytes e → ⊥) where
     module _ (catalog : Catalog S ServedHandler) (are : AreAlone catalog.zones) (r : ReceivedRequest) (question : Query) (is : IsQuery r.message question) (no_transfer : (question.query_type == type_axfr) ≡ false) (now : ℕ) where
       abbrev server : Server ServedHandler
@@ -161,40 +163,55 @@ module _ (handler : Ghosts ServedHandler)
       abbrev One : List Reply → Type 0
       One replies = (contents : Contents) × IsSaidBy catalog.zones r question contents × (replies ≡ unsigned_reply r.message edns contents ∷ [])
 
-      by_nearest_zone : (contents : Contents) → IsSaid server r question (Says r question) contents → IsSaidBy catalog.zones r question contents
-      by_nearest_zone contents (by_nobody none is) = by_none none is
-      by_nearest_zone contents (by_nearest zone nearest (state, chain, says)) = by_zone nearest chain says
+      by_nearest_zone : FindsAbove catalog.zones r.message None → (contents : Contents) → IsSaid server r question (Says r question) contents → IsSaidBy catalog.zones r question contents
+      by_nearest_zone not_above contents (by_nobody none is) = by_none not_above none is
+      by_nearest_zone not_above contents (by_nearest zone nearest (state, chain, says)) =
+          by_zone (for_laws.own not_above (record { query = question; asks = asks; nearest = nearest })) chain says
 
-      answered : (replies : List Reply) (after : ZoneChains ServedHandler) → RequestAnswered server r now replies after → One replies
-      answered replies after (requests.refused fault _ _) = let fine = looked_into r.message question is in absurd cc
-      answered replies after (requests.updates _ op _) = let code = is.op_code in absurd cc
-      answered replies after (requests.asks _ _ query) =
+      answered : FindsAbove catalog.zones r.message None → (replies : List Reply) (after : ZoneChains ServedHandler) → RequestAnswered server r now replies after → One replies
+      answered not_above replies after (requests.refused fault _ _) = let fine = looked_into r.message question is in absurd cc
+      answered not_above replies after (requests.updates _ op _) = let code = is.op_code in absurd cc
+      answered not_above replies after (requests.asks _ _ query) =
           let one = query_replied server r question edns now (Says r question) asks no_transfer by_chain replies query.are_replies in
-          (one.0, by_nearest_zone one.0 one.1, one.2)
+          (one.0, by_nearest_zone not_above one.0 one.1, one.2)
+
+      from_zones : (replies : List Reply) (after : ZoneChains ServedHandler) → ZonesAnswer server r now replies after → One replies
+      from_zones replies after (by_rules.own not_above answers) = answered not_above replies after answers
+      from_zones replies after (by_rules.above {zone = zone} asked answers _) =
+          let s = chain_replied server r question edns now (Says r question) asks no_transfer by_chain zone asked.nearest.among replies answers in
+          let (state, chain, says) = s.1 in
+          (s.0, by_zone (for_laws.above asked) chain says, s.2)
+
+      abbrev OneEncoded : List (List ℕ) → Type 0
+      OneEncoded encoded = (contents : Contents) × IsSaidBy catalog.zones r question contents × (bytes : List ℕ) × (encoded ≡ bytes ∷ []) × IsEncodingOf r.protocol (unsigned_reply r.message edns contents) bytes
+
+      by_request : (rules : Rules) → IsRuling rules r Pass → (encoded : List (List ℕ)) (after : ZoneChains ServedHandler) → RequestServed rules server r now encoded after → OneEncoded encoded
+      by_request rules pass encoded after (by_rules.refused ruling _ _ _) = absurd (not_refused rules r pass ruling)
+      by_request rules pass encoded after (by_rules.truncated ruling _ _ _) = absurd (not_truncated rules r pass ruling)
+      by_request rules pass encoded after (by_rules.transferred ruling _ _ _) = absurd (not_transferred rules r pass ruling)
+      by_request rules pass encoded after (by_rules.passed {replies = replies} _ zones encodes) =
+          let a = from_zones replies after zones in
+          let one = one_encoded r.protocol replies (unsigned_reply r.message edns a.0) encoded a.2 encodes in
+          (a.0, a.1, one.0, one.1, one.2)
 
     pub reply : QueriesAreAnswered handler signature_for
-    reply rules catalog message question answer after are plain served = by step.1 step.2 where
-      step : (outcome : Outcome) × Step rules.access (server_of handler signature_for catalog) message outcome after × IsSent message (udp_limit rules) outcome answer
-      step = steps rules catalog message answer after (let_through same rules message question plain catalog.zones) served
-
-      by : {outcome : Outcome} → Step rules.access (server_of handler signature_for catalog) message outcome after → IsSent message (udp_limit rules) outcome answer
-          → (request : ReceivedRequest) × IsRequestOf message request × (contents : Contents)
-          × IsSaidBy catalog.zones request question contents × IsSentAlone rules catalog.nsid message request contents answer
-      by (serving.denied refuses _ _) sent = absurd (refuses plain.may_use)
-      by (serving.unreadable _ fault _ _) sent = absurd (no_fault message.bytes.items (message_of plain.request.message) fault.fault plain.is_request.reads fault.first)
-      by (serving.handled {request = r} {replies = replies} {encoded = encoded} _ is answers encodes told) sent =
-          let asked = read_so same rules message question plain r is in
-          let a = answered catalog are r question asked (ne_eqb question.query_type type_axfr (λ axfr. plain.no_transfer (inl axfr))) message.now replies after answers in
-          let one = one_encoded message.protocol replies (unsigned_reply r.message (reply_edns catalog.nsid r.message.edns) a.0) encoded a.2 encodes in
-          let s : (bytes : List (List ℕ)) × AreSent message.protocol (udp_limit rules) encoded bytes × (answer ≡ Replies bytes) = subst (λ (o : Outcome). IsSent message (udp_limit rules) o answer) told sent in
-          let leaves = subst (λ (e : List (List ℕ)). AreSent message.protocol (udp_limit rules) e s.0) one.1 s.1 in
-          let alone = one_sent message.protocol (udp_limit rules) one.0 s.0 leaves in (
-            r, is, a.0, a.1,
-            record {
-              encoded = one.0;
-              encodes = one.2;
-              bytes = alone.0;
-              sent = subst (λ (b : List (List ℕ)). AreSent message.protocol (udp_limit rules) (one.0 ∷ []) b) alone.1 leaves;
-              answer_is = s.2 ∙ ap (λ (b : List (List ℕ)). let told : Answer = Replies b in told) alone.1;
-            },
-          )
+    reply rules catalog message question answer after are plain (by_rules.denied refuses _ _) = absurd (refuses plain.may_use)
+    reply rules catalog message question answer after are plain (by_rules.short _ less _ _) = absurd (omega (arith, less, plain.whole))
+    reply rules catalog message question answer after are plain (by_rules.response _ _ response _ _) = absurd (plain.no_response response)
+    reply rules catalog message question answer after are plain (by_rules.unreadable _ _ _ fault _ _) =
+        absurd (no_fault message.bytes.items (message_of plain.request.message) fault.fault plain.is_request.reads fault.first)
+    reply rules catalog message question answer after are plain (by_rules.request {request = r} {encoded = encoded} {sent = sent} _ _ _ is served leaves told) =
+        let a = by_request catalog are r question (read_so same rules message question plain r is) (ne_eqb question.query_type type_axfr (λ axfr. plain.no_transfer (inl axfr))) message.now
+        rules (passes same rules message question plain r is) encoded after served in
+        let (contents, said_so, bytes, one, encodes) = a in
+        let leaves_so = subst (λ (e : List (List ℕ)). AreSent message.protocol (udp_limit rules) e sent) one leaves in
+        let alone = one_sent message.protocol (udp_limit rules) bytes sent leaves_so in (
+          r, is, contents, said_so,
+          record {
+            encoded = bytes;
+            encodes = encodes;
+            bytes = alone.0;
+            sent = subst (λ (b : List (List ℕ)). AreSent message.protocol (udp_limit rules) (bytes ∷ []) b) alone.1 leaves_so;
+            answer_is = told ∙ ap (λ (b : List (List ℕ)). let says_so : Answer = Replies b in says_so) alone.1;
+          },
+        )

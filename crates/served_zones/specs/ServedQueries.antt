@@ -1,10 +1,10 @@
 -- What a server replies to a query from its zones, and how messages change them.
-use Rattle.std.specs.Prelude.{◌≡◌, ◌==◌, ◌≢◌, ◌≤◌, ◌⊎◌, ◌∷◌, [], ℕ, All, Bool, List, Ok, Option, None, Some, length, true}
+use Rattle.std.specs.Prelude.{◌≡◌, ◌==◌, ◌≤◌, ◌⊎◌, ◌∷◌, [], ℕ, All, Bool, List, Ok, Option, None, Some, length, true}
 use Rattle.either.specs.declared.Either.TheVariants.{Left}
 use Rattle.wire_names.specs.rr.domain.DomainName.{DomainName}
 use Rattle.wire_names.specs.rr.domain.NameOrder.{lower_name}
 use Rattle.wire_names.specs.declared.error.ProtoError.{ProtoError}
-use Rattle.wire_messages.specs.Numbers.{class_in, code_refused, opcode_update, type_ds}
+use Rattle.wire_messages.specs.Numbers.{code_refused, opcode_update}
 use Rattle.wire_messages.specs.declared.op.query.Query.{Query}
 use Rattle.hickory_base.specs.requests.RequestReading.{IsFaultOf}
 use Rattle.hickory_base.specs.requests.Requests.{ReceivedRequest}
@@ -18,11 +18,13 @@ use Rattle.hickory_catalog.specs.replies.ReplyEdns.{reply_edns}
 use Rattle.hickory_catalog.specs.replies.Signing.{Signer}
 use Rattle.hickory_catalog.specs.requests.Server.{server_of}
 use Rattle.hickory_catalog.specs.updates.Updates.{updated_zone}
-use Rattle.hickory_catalog.specs.zones.Find.{Finds, IsNearest}
+use Rattle.hickory_catalog.specs.zones.Find.{Finds}
 use Rattle.hickory_catalog.specs.zones.Zones.{ChangesAt, ZoneChains}
 use Rattle.hickory_catalog.specs.declared.catalog.Catalog.{Catalog}
-use Rattle.hickory_server.specs.server.Ruling.{IsQuery, IsResponse, IsTransfer, MayUse, udp_limit}
+use Rattle.hickory_server.specs.server.Above.{FindsAbove}
+use Rattle.hickory_server.specs.server.Ruling.{IsOfServedClass, IsQuery, IsResponse, IsTransfer, MayUse, udp_limit}
 use Rattle.hickory_server.specs.server.ServedBy.{AreSent, ServedBy}
+use Rattle.hickory_server.specs.server.ServedLaws.{IsFor}
 use Rattle.hickory_server.specs.server.Serving.{IsRequestOf, LeavesUnserved}
 use Rattle.hickory_server.specs.declared.server.answer.Answer.{Answer}
 use Rattle.hickory_server.specs.declared.server.answer.Answer.TheVariants.{Replies}
@@ -45,8 +47,8 @@ IsZoneAlone chain = (zone : ZoneState TsigVerifier) × (chain ≡ Left zone ∷ 
 abbrev pub AreAlone : ZoneChains ServedHandler → Type 0
 AreAlone zones = All (λ served. IsZoneAlone served.1) zones
 
--- The message is a query of this one question: of class IN, neither for a transfer nor for DS records, and from an
--- address that may use the server.
+-- The message is a query of this one question, of a class that is served and for no transfer, from an address that may
+-- use the server.
 pub record IsPlainQuery (rules : Rules) (message : Incoming) (question : Query) : Type 0 where
   pub may_use : MayUse rules message.src
   pub whole : 12 ≤ length message.bytes.items
@@ -54,9 +56,8 @@ pub record IsPlainQuery (rules : Rules) (message : Incoming) (question : Query) 
   pub request : ReceivedRequest
   pub is_request : IsRequestOf message request
   pub is_query : IsQuery request.message question
-  pub class : question.query_class ≡ class_in
+  pub class : IsOfServedClass question
   pub no_transfer : ¬ (IsTransfer question)
-  pub no_ds : question.query_type ≢ type_ds
 
 -- So its bytes begin with a message (RFC 1035 section 4.1).
 abbrev pub PlainQueriesAreRead : Type 0
@@ -69,17 +70,18 @@ pub data IsSaidByZone (zone : MemoryZone) (request : ReceivedRequest) (question 
   by_failure : ¬ (AreOwners zone.origin zone.sets) → contents ≡ whole_contents request.message.metadata failure → IsSaidByZone zone request question contents
 
 -- What the reply to a question says: REFUSED, if no zone answers for the name (RFC 1035 section 4.1.1); or what the
--- zone that is nearest to the name says (RFC 1034 section 4.3.2, step 2).
+-- zone says that the request is for: the nearest to the name (RFC 1034 section 4.3.2, step 2), or for the DS records of
+-- an apex the nearest above it (RFC 4035 section 3.1.4.1).
 pub data IsSaidBy (zones : ZoneChains ServedHandler) (request : ReceivedRequest) (question : Query) (contents : Contents) : Type 0 where
-  by_none : Finds zones (lower_name question.name) None → contents ≡ error_contents request.message.metadata code_refused → IsSaidBy zones request question contents
-  by_zone : {apex : DomainName} {chain : Chain} {zone : ZoneState TsigVerifier} → IsNearest zones (lower_name question.name) (apex, chain)
+  by_none : FindsAbove zones request.message None → Finds zones (lower_name question.name) None → contents ≡ error_contents request.message.metadata code_refused → IsSaidBy zones request question contents
+  by_zone : {apex : DomainName} {chain : Chain} {zone : ZoneState TsigVerifier} → IsFor zones request (apex, chain)
       → chain ≡ Left zone ∷ [] → IsSaidByZone zone.updatable.zone request question contents → IsSaidBy zones request question contents
 
 -- One message leaves. It encodes a reply that says this, with the question and, if the request has EDNS, with an OPT
 -- record; over UDP within the limits of client and server.
 pub record IsSentAlone (rules : Rules) (identifier : Option (List ℕ)) (message : Incoming) (request : ReceivedRequest) (contents : Contents) (answer : Answer) : Type 0 where
   pub encoded : List ℕ
-  pub encodes : IsEncodingOf message.protocol (unsigned_reply request.message (reply_edns identifier request.message.edns) contents) encoded
+  pub encodes : IsEncodingOf request.protocol (unsigned_reply request.message (reply_edns identifier request.message.edns) contents) encoded
   pub bytes : List ℕ
   pub sent : AreSent message.protocol (udp_limit rules) (encoded ∷ []) (bytes ∷ [])
   pub answer_is : answer ≡ Replies (bytes ∷ [])

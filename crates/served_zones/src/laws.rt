@@ -6,7 +6,6 @@ ghost use Rattle.served_zones.specs.ZoneReplies.{TheReplyIsMade};
 use crate::handler::Handler;
 use hickory_base::zone_store::ZoneHandler;
 use hickory_catalog::signer::ReplySigner;
-use hickory_server::server::rule_laws::messages_by_rules;
 use hickory_store::updates::Verifier;
 use hickory_wire::message_laws::one_message;
 use signed_server::LeftToServer;
@@ -34,5 +33,4 @@ pub fn served_queries<D: Disk + Drop>()
 {
     owned_zones_reply();
     one_message();
-    messages_by_rules::<LeftToServer, Handler<D>>();
 }

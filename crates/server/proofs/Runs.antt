@@ -1,5 +1,5 @@
 -- What a server that took settings and answered messages has of the files of its zones.
-use Rattle.std.proofs.Common.{◌≡◌, ◌≤◌, ◌<◌, ◌⊎◌, ◌∙◌, ◌++◌, inl, inr, ℕ, Bool, true, false, List, [], ◌∷◌, length, Option, Some, None, Result, Ok, Err, option_map, refl, sym, ap, subst, arith}
+use Rattle.std.proofs.Common.{◌≡◌, ◌≤◌, ◌⊎◌, ◌∙◌, ◌++◌, inl, inr, ℕ, Bool, true, false, List, [], ◌∷◌, length, Some, None, Result, Ok, Err, option_map, refl, sym, ap, subst, arith}
 use Rattle.std.specs.Prelude.{All, Any, Contains}
 use Rattle.std.specs.Bool.{MatchBool}
 use Rattle.std.proofs.lemmas.List.Elements.{All-cons, All-contains, All-contains_itself, All-nil, All-weaker, Contains-append_cases, Contains-append_left, Contains-append_right}
@@ -9,7 +9,7 @@ use Rattle.wire_names.specs.rr.domain.NameOrder.{Encloses, SameName, lower_name}
 use Rattle.wire_names.proofs.lemmas.rr.domain.SameNames.{lower_labels-twice}
 use Rattle.wire_messages.specs.declared.op.query.Query.{Query}
 use Rattle.hickory_base.specs.requests.Requests.{ReceivedRequest, TimedRequest}
-use Rattle.hickory_base.specs.zone_store.ZoneAnswers.{MemoryZone}
+use Rattle.hickory_base.specs.declared.requests.message_request.MessageRequest.{MessageRequest}
 use Rattle.hickory_base.specs.declared.zone_store.handler.ZoneHandler.{Ghosts}
 use Rattle.hickory_catalog.proofs.lemmas.zones.Alone.{contains_behind, contains_cases}
 use Rattle.hickory_catalog.proofs.lemmas.zones.Nearest.{same_length}
@@ -17,9 +17,12 @@ use Rattle.hickory_catalog.proofs.lemmas.zones.PlacesInOrder.{same_back}
 use Rattle.hickory_catalog.specs.replies.Replies.{Contents}
 use Rattle.hickory_catalog.specs.replies.Signing.{Signer}
 use Rattle.hickory_catalog.specs.requests.Server.{server_of}
-use Rattle.hickory_catalog.specs.zones.Find.{IsNearest, MayAnswer}
+use Rattle.hickory_catalog.specs.zones.Find.{Finds, IsNearest, MayAnswer}
 use Rattle.hickory_catalog.specs.zones.Zones.{ChangesAt, HasZone, ZoneChains}
+use Rattle.hickory_server.specs.server.Above.{FindsAbove, above}
 use Rattle.hickory_server.specs.server.ServedBy.{IsMessageOf, ServedBy}
+use Rattle.hickory_server.specs.server.ServedLaws.{IsFor}
+use Rattle.hickory_server.specs.server.ServedLaws as for_laws
 use Rattle.hickory_server.specs.zone_handler.ZoneReplies.{SaysTheReply}
 use Rattle.hickory_server.specs.declared.server.answer.Answer.{Answer}
 use Rattle.hickory_server.specs.declared.server.rules.Rules.{Rules}
@@ -30,24 +33,18 @@ use Rattle.served_zones.specs.Grants.{rules_for}
 use Rattle.served_zones.specs.ServedQueries.{AreAlone, IsPlainQuery, IsSaidBy, IsSaidByZone, IsZoneAlone, MakesUpdate, PlainQueriesAreRead, QueriesAreAnswered, ZonesAreUpdated, by_failure, by_none, by_reply, by_zone}
 use Rattle.served_zones.specs.ServedZones.{Chain, IsLoadedAs, IsZoneOfFile, ServedHandler, loaded}
 use Rattle.served_zones.specs.ZoneChanges.{FirstChanges}
-use Rattle.served_zones.specs.ZoneChanges.ChangeInTurn.{none}
-use Rattle.served_zones.specs.ZoneChanges.ChangeInTurn.{more as one_more}
+use Rattle.served_zones.specs.ZoneChanges as turns
 use Rattle.served_zones.specs.declared.grants.Grant.{Grant}
 use Rattle.signed_server.specs.ServedWithKeys.{LeavesWithKeys, ServedWithKeys, course_of}
 use Rattle.signed_server.specs.ServedWithKeys.ServedWithKeys.{bad, good, plain, unjudged, unreadable}
 use Rattle.signed_server.specs.declared.placeholders.LeftToServer.{LeftToServer}
-use Rattle.signed_server.specs.declared.service.Course.{Course}
-use Rattle.signed_server.specs.declared.service.Course.TheVariants.{Plain, Refuse, Sign}
-use Rattle.tsig.specs.declared.judgement.Judgement.{Judgement}
-use Rattle.tsig.specs.declared.judgement.Judgement.TheVariants.{Unsigned}
 use Rattle.tsig.specs.declared.keys.Key.{Key}
 use Rattle.tsig.specs.declared.verifier.TsigVerifier.{TsigVerifier}
 use Rattle.update_policy.specs.declared.policy.Rule.{Rule}
 use Rattle.hickory_store.specs.declared.updates.verifier.Verifier.{Ghosts as Verifies}
-use Rattle.hickory_zone.specs.Zones.{AreOwners}
 use Rattle.zones.specs.ZoneStates.{ZoneState}
 use Rattle.zones.specs.ZoneUpdates.{Updates}
-use Rattle.server.specs.Run.{Answers, Event, FilesReply, Happens, IsAsBefore, IsOfRun, IsSaidOf, IsUnsigned, IsZoneAfter, RepliesAreOfTheFiles, Run, arrived, files_of, gets_rules, goes_on, keyed, loads, of_file, of_no_file, starts, takes_update}
+use Rattle.server.specs.Run.{Answers, Event, FilesReply, Happens, IsOfRun, IsSaidOf, IsUnsigned, IsZoneAfter, RepliesAreOfTheFiles, Run, arrived, files_of, gets_rules, goes_on, keyed, loads, of_file, of_no_file, starts, takes_update}
 use Rattle.server.specs.Run.Event.{identifier_set, keys_set, max_udp_set, message_came, network_allowed, network_denied, rate_set, rule_added, rules_given, transfer_key_allowed, transfers_allowed, transfers_denied, zone_added}
 use Rattle.server.specs.Settings.{rules_of, zones_of}
 use Rattle.server.specs.declared.service.Service.{Service}
@@ -71,7 +68,7 @@ any_of xs x among holds = (among.0, x, among.1, among.2, holds)
 
 -- ---- zones of files
 
-state_of : ZoneState TsigVerifier → Chain → ZoneState TsigVerifier
+abbrev state_of : ZoneState TsigVerifier → Chain → ZoneState TsigVerifier
 state_of other [] = other
 state_of other (Left zone ∷ rest) = zone
 state_of other (Right list ∷ rest) = other
@@ -260,8 +257,8 @@ module _ (by : Verifies TsigVerifier) where
     given_one keys (rule ∷ rules) apex old after (inr (none, same)) are = subst (λ (zs : ZoneChains ServedHandler). AreOfFiles by events zs) (sym same) are
 
     pub given_all : (keys : List Key) (grants : List Grant) (apexes : List DomainName) (old after : ZoneChains ServedHandler) → AreGiven keys grants apexes old after → AreOfFiles by events old → AreOfFiles by events after
-    given_all keys grants apexes old after none are = are
-    given_all keys grants apexes old after (one_more {between = between} apex before gives) are =
+    given_all keys grants apexes old after turns.none are = are
+    given_all keys grants apexes old after (turns.more {between = between} apex before gives) are =
         given_one keys (rules_for grants apex) apex between after gives (given_all keys grants _ old between before are)
 
   -- ---- a message makes an update
@@ -292,35 +289,85 @@ module _ (by : Verifies TsigVerifier) where
 
 -- ---- what is said of the zones is said of the files
 
-module _ (by : Verifies TsigVerifier) (events : List Event) (zones : ZoneChains ServedHandler) (are : AreOfFiles by events zones) (request : ReceivedRequest) (question : Query) where
-  abbrev asked : DomainName
-  asked = lower_name question.name
+module _ (by : Verifies TsigVerifier) (events : List Event) (zones : ZoneChains ServedHandler) (are : AreOfFiles by events zones) where
+  abbrev files : List (DomainName × List ℕ)
+  files = files_of events
 
-  no_file_may : ((served : DomainName × Chain) → Contains zones served → ¬ (MayAnswer served.0 asked)) → (one : DomainName × List ℕ) → HasZone zones one.0 → ¬ (MayAnswer one.0 asked)
-  no_file_may none one (k, served, within, at, same) may = none served (k, within, at) (may_as one.0 served.0 asked (same_back served.0 one.0 same) may)
+  the_file : (served : DomainName × Chain) → Contains zones served → IsOfAFile by events served
+  the_file served among = All-contains (IsOfAFile by events) zones served are.from_files among
 
-  no_longer : (apex : DomainName) (chain : Chain) (file_apex : DomainName) → IsNearest zones asked (apex, chain) → SameName apex file_apex
-      → (one : DomainName × List ℕ) → HasZone zones one.0 → MayAnswer one.0 asked → length one.0.labels ≤ length file_apex.labels
-  no_longer apex chain file_apex nearest spelled one (k, served, within, at, same) may =
-      let longest : length served.0.labels ≤ length apex.labels =
-      All-contains (λ (other : DomainName × Chain). MayAnswer other.0 asked → length other.0.labels ≤ length apex.labels) zones served nearest.longest (k, within, at)
-      (may_as one.0 served.0 asked (same_back served.0 one.0 same) may) in
-      omega (arith, longest, same_length served.0 one.0 same, same_length apex file_apex spelled)
+  has_file : (name : DomainName) → HasZone zones name → HasZone files name
+  has_file name (k, served, within, at, same) =
+      let is = the_file served (k, within, at) in
+      any_of files (is.apex, is.file) is.among (record { labels = sym is.same.labels ∙ same.labels; marks = sym is.same.marks ∙ same.marks })
 
-  pub said_of : (contents : Contents) → IsSaidBy zones request question contents → IsSaidOf by events request question contents
-  said_of contents (by_none none is) =
-      of_no_file (All-weaker (λ (one : DomainName × List ℕ). HasZone zones one.0) (λ (one : DomainName × List ℕ). ¬ (MayAnswer one.0 asked))
-      (no_file_may (λ served among. All-contains (λ (z : DomainName × Chain). ¬ (MayAnswer z.0 asked)) zones served none among)) (files_of events) are.served) is
-  said_of contents (by_zone {apex = apex} {chain = chain} {zone = zone} nearest chain_is says) =
-      let is : IsOfAFile by events (apex, chain) = All-contains (IsOfAFile by events) zones (apex, chain) are.from_files nearest.among in
+  zone_of : (one : DomainName × List ℕ) → Contains files one → HasZone zones one.0
+  zone_of one among = All-contains (λ (file : DomainName × List ℕ). HasZone zones file.0) files one are.served among
+
+  has_zone : (name : DomainName) → HasZone files name → HasZone zones name
+  has_zone name (k, one, within, at, same) =
+      let (n, served, less, there, here) = zone_of one (k, within, at) in
+      any_of zones served (n, less, there) (record { labels = here.labels ∙ same.labels; marks = here.marks ∙ same.marks })
+
+  -- the nearest zone is of the nearest file
+  nearest_file : (name : DomainName) (served : DomainName × Chain) → IsNearest zones name served → (is : IsOfAFile by events served) → IsNearest files name (is.apex, is.file)
+  nearest_file name served nearest is = record {
+    among = is.among;
+    may_answer = may_as served.0 is.apex name is.same nearest.may_answer;
+    longest = All-weaker (λ (one : DomainName × List ℕ). HasZone zones one.0) (λ (one : DomainName × List ℕ). MayAnswer one.0 name → length one.0.labels ≤ length is.apex.labels) no_longer files are.served;
+  } where
+    no_longer : (one : DomainName × List ℕ) → HasZone zones one.0 → MayAnswer one.0 name → length one.0.labels ≤ length is.apex.labels
+    no_longer one (k, other, within, at, same) may =
+        let longest : length other.0.labels ≤ length served.0.labels =
+        All-contains (λ (z : DomainName × Chain). MayAnswer z.0 name → length z.0.labels ≤ length served.0.labels) zones other nearest.longest (k, within, at)
+        (may_as one.0 other.0 name (same_back other.0 one.0 same) may) in
+        omega (arith, longest, same_length other.0 one.0 same, same_length served.0 is.apex is.same)
+
+  nearest_zone : (name : DomainName) (one : DomainName × List ℕ) → IsNearest files name one → (served : DomainName × Chain) × IsNearest zones name served
+  nearest_zone name one nearest = from (zone_of one nearest.among) where
+    from : HasZone zones one.0 → (served : DomainName × Chain) × IsNearest zones name served
+    from (k, served, within, at, same) = (
+      served,
+      record {
+        among = (k, within, at);
+        may_answer = may_as one.0 served.0 name (same_back served.0 one.0 same) nearest.may_answer;
+        longest = All-weaker (Contains zones) (λ (z : DomainName × Chain). MayAnswer z.0 name → length z.0.labels ≤ length served.0.labels) no_longer zones (All-contains_itself zones);
+      },
+    ) where
+      no_longer : (other : DomainName × Chain) → Contains zones other → MayAnswer other.0 name → length other.0.labels ≤ length served.0.labels
+      no_longer other among may =
+          let is = the_file other among in
+          let longest : length is.apex.labels ≤ length one.0.labels =
+          All-contains (λ (f : DomainName × List ℕ). MayAnswer f.0 name → length f.0.labels ≤ length one.0.labels) files (is.apex, is.file) nearest.longest is.among (may_as other.0 is.apex name is.same may) in
+          omega (arith, longest, same_length other.0 is.apex is.same, same_length served.0 one.0 same)
+
+  none_above : (message : MessageRequest) → FindsAbove zones message None → FindsAbove files message None
+  none_above message none one asked =
+      let (served, nearest) = nearest_zone (above asked.name) one asked.nearest in
+      none served (record { name = asked.name; asks = asked.asks; is_apex = has_zone asked.name asked.is_apex; nearest = nearest })
+
+  none_for : (name : DomainName) → Finds zones name None → Finds files name None
+  none_for name none = All-weaker (λ (one : DomainName × List ℕ). HasZone zones one.0) (λ (one : DomainName × List ℕ). ¬ (MayAnswer one.0 name)) never files are.served where
+    never : (one : DomainName × List ℕ) → HasZone zones one.0 → ¬ (MayAnswer one.0 name)
+    never one (k, served, within, at, same) may =
+        All-contains (λ (z : DomainName × Chain). ¬ (MayAnswer z.0 name)) zones served none (k, within, at) (may_as one.0 served.0 name (same_back served.0 one.0 same) may)
+
+  is_among : (request : ReceivedRequest) (served : DomainName × Chain) → IsFor zones request served → Contains zones served
+  is_among request served (for_laws.above asked) = asked.nearest.among
+  is_among request served (for_laws.own _ of_zone) = of_zone.nearest.among
+
+  is_for : (request : ReceivedRequest) (served : DomainName × Chain) → IsFor zones request served → (is : IsOfAFile by events served) → IsFor files request (is.apex, is.file)
+  is_for request served (for_laws.above asked) is =
+      for_laws.above (record { name = asked.name; asks = asked.asks; is_apex = has_file asked.name asked.is_apex; nearest = nearest_file (above asked.name) served asked.nearest is })
+  is_for request served (for_laws.own none of_zone) is =
+      for_laws.own (none_above request.message none) (record { query = of_zone.query; asks = of_zone.asks; nearest = nearest_file (lower_name of_zone.query.name) served of_zone.nearest is })
+
+  pub said_of : (request : ReceivedRequest) (question : Query) (contents : Contents) → IsSaidBy zones request question contents → IsSaidOf by events request question contents
+  said_of request question contents (by_none not_above none is) = of_no_file (none_above request.message not_above) (none_for (lower_name question.name) none) is
+  said_of request question contents (by_zone {apex = apex} {chain = chain} {zone = zone} for_it chain_is says) =
+      let is = the_file (apex, chain) (is_among request (apex, chain) for_it) in
       let one : zone ≡ is.zone = ap (state_of zone) (sym chain_is ∙ is.chain) in
-      of_file {apex = is.apex} {file = is.file} {requests = is.requests} {zone = is.zone}
-      (record {
-        among = is.among;
-        may_answer = may_as apex is.apex asked is.same nearest.may_answer;
-        longest = All-weaker (λ (other : DomainName × List ℕ). HasZone zones other.0) (λ (other : DomainName × List ℕ). MayAnswer other.0 asked → length other.0.labels ≤ length is.apex.labels)
-        (no_longer apex chain is.apex nearest is.same) (files_of events) are.served;
-      })
+      of_file {apex = is.apex} {file = is.file} {requests = is.requests} {zone = is.zone} (is_for request (apex, chain) for_it is)
       is.after is.of_run (subst (λ (z : ZoneState TsigVerifier). IsSaidByZone z.updatable.zone request question contents) one says)
 
 -- ---- the run
@@ -424,9 +471,9 @@ module _ (handler : Ghosts ServedHandler) (signature_for : LeftToServer → Sign
   query_served service message question answer after is unsigned (plain _ _ _ served) = served message (is_message message)
   query_served service message question answer after is unsigned (unreadable {e = e} _ _ fault _ _) = absurd (read (rules_of service) message question e is fault)
   query_served service message question answer after is unsigned (good {judgement = judgement} _ judged course _ _ _ _) =
-      let no : ◌≡◌ {A = Course} Plain Sign = sym (ap course_of (unsigned judgement judged)) ∙ course in absurd cc
+      let no = sym (ap course_of (unsigned judgement judged)) ∙ course in absurd cc
   query_served service message question answer after is unsigned (bad {judgement = judgement} _ judged course _ _ _ _) =
-      let no : ◌≡◌ {A = Course} Plain Refuse = sym (ap course_of (unsigned judgement judged)) ∙ course in absurd cc
+      let no = sym (ap course_of (unsigned judgement judged)) ∙ course in absurd cc
 
   pub of_files : RepliesAreOfTheFiles handler signature_for by
   of_files events service message question answer zones run is unsigned answers =
@@ -447,9 +494,6 @@ files_reply by file apex zone request question contents after said = (is, from s
   is : IsZoneOfFile file apex zone.updatable.zone
   is = zone_of_file by file apex zone after
 
-  owners : AreOwners zone.updatable.zone.origin zone.updatable.zone.sets
-  owners = let (records, is_file, is_made, all) = is in all
-
   from : IsSaidByZone zone.updatable.zone request question contents → SaysTheReply zone.updatable.zone request question contents
   from (by_reply _ says) = says
-  from (by_failure not _) = absurd (not owners)
+  from (by_failure not _) = absurd (not (let (records, is_file, served) = is in served.1))

@@ -1,6 +1,6 @@
 -- One law from the bytes of zone files and messages to the bytes that leave. It is of servers that block no names, and
 -- whose zones have no journals.
-use Rattle.std.specs.Prelude.{◌≡◌, ◌==◌, ◌≤◌, ◌++◌, ◌∷◌, [], ℕ, All, Bool, Contains, List, Option, Some, None, Result, Ok, Err, option_map, true}
+use Rattle.std.specs.Prelude.{◌≡◌, ◌==◌, ◌≤◌, ◌++◌, ◌∷◌, [], ℕ, All, Bool, Contains, List, Some, None, Result, Ok, Err, option_map, true}
 use Rattle.wire_names.specs.rr.domain.DomainName.{DomainName}
 use Rattle.wire_names.specs.rr.domain.NameOrder.{lower_name}
 use Rattle.wire_messages.specs.Numbers.{code_refused, opcode_update}
@@ -12,9 +12,11 @@ use Rattle.hickory_base.specs.zone_store.ZoneAnswers.{MemoryZone}
 use Rattle.hickory_base.specs.declared.zone_store.handler.ZoneHandler.{Ghosts}
 use Rattle.hickory_catalog.specs.replies.Replies.{Contents, error_contents}
 use Rattle.hickory_catalog.specs.replies.Signing.{Signer}
-use Rattle.hickory_catalog.specs.zones.Find.{Finds, IsNearest}
+use Rattle.hickory_catalog.specs.zones.Find.{Finds}
 use Rattle.hickory_catalog.specs.zones.Zones.{ZoneChains}
+use Rattle.hickory_server.specs.server.Above.{FindsAbove}
 use Rattle.hickory_server.specs.server.ServedBy.{Arrival, arrival}
+use Rattle.hickory_server.specs.server.ServedLaws.{IsFor}
 use Rattle.hickory_server.specs.server.Serving.{IsRequestOf}
 use Rattle.hickory_server.specs.zone_handler.ZoneReplies.{SaysTheReply}
 use Rattle.hickory_server.specs.declared.server.answer.Answer.{Answer}
@@ -141,11 +143,12 @@ abbrev pub IsUnsigned : List Key → Incoming → Type 0
 IsUnsigned keys message = (judgement : Judgement) → Judged keys message.bytes.items message.now judgement → judgement ≡ Unsigned
 
 -- What the reply to a question says: REFUSED, if no file is of a zone for the name (RFC 1035 section 4.1.1); or what the
--- zone of the nearest file says, as the updates that came left it (RFC 1034 section 4.3.2).
+-- zone of a file says, as the updates that came left it (RFC 1034 section 4.3.2). The file is the one whose apex is
+-- nearest to the name, or for the DS records of an apex the nearest above it (RFC 4035 section 3.1.4.1).
 pub data IsSaidOf (by : Verifies TsigVerifier) (events : List Event) (request : ReceivedRequest) (question : Query) (contents : Contents) : Type 0 where
-  of_no_file : Finds (files_of events) (lower_name question.name) None → contents ≡ error_contents request.message.metadata code_refused → IsSaidOf by events request question contents
+  of_no_file : FindsAbove (files_of events) request.message None → Finds (files_of events) (lower_name question.name) None → contents ≡ error_contents request.message.metadata code_refused → IsSaidOf by events request question contents
   of_file : {apex : DomainName} {file : List ℕ} {requests : List TimedRequest} {zone : ZoneState TsigVerifier}
-      → IsNearest (files_of events) (lower_name question.name) (apex, file) → IsZoneAfter by file apex requests zone → All (IsOfRun events) requests
+      → IsFor (files_of events) request (apex, file) → IsZoneAfter by file apex requests zone → All (IsOfRun events) requests
       → IsSaidByZone zone.updatable.zone request question contents → IsSaidOf by events request question contents
 
 -- Whatever settings a server took and whatever messages it answered: an unsigned query that may use it has one reply,
