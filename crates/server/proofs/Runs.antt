@@ -45,7 +45,7 @@ use Rattle.hickory_store.specs.declared.updates.verifier.Verifier.{Ghosts as Ver
 use Rattle.zones.specs.ZoneStates.{ZoneState}
 use Rattle.zones.specs.ZoneUpdates.{Updates}
 use Rattle.server.specs.Run.{Answers, Event, FilesReply, Happens, IsOfRun, IsSaidOf, IsUnsigned, IsZoneAfter, RepliesAreOfTheFiles, Run, arrived, files_of, gets_rules, goes_on, keyed, loads, of_file, of_no_file, starts, takes_update}
-use Rattle.server.specs.Run.Event.{identifier_set, keys_set, max_udp_set, message_came, network_allowed, network_denied, rate_set, rule_added, rules_given, transfer_key_allowed, transfers_allowed, transfers_denied, zone_added}
+use Rattle.server.specs.Run.Event.{message_came, other_set, rule_added, rules_given, zone_added}
 use Rattle.server.specs.Settings.{rules_of, zones_of}
 use Rattle.server.specs.declared.service.Service.{Service}
 
@@ -427,22 +427,13 @@ module _ (handler : Ghosts ServedHandler) (signature_for : LeftToServer → Sign
         (subst (λ list. IsLoadedAs (IsZoneOfFile file) name (option_map (λ it. it.value) list) apex (zones_of old) (zones_of after)) holds.no_list loads_as);
         no_list = ap (λ (s : Service). s.list) others ∙ holds.no_list;
       }
-  step events (keys_set file) old after holds (keys, others) = kept events (keys_set file) old after refl holds (ap zones_of others) (ap (λ (s : Service). s.list) others)
-  step events (transfer_key_allowed name) old after holds (key, denied, allowed, others) =
-      kept events (transfer_key_allowed name) old after refl holds (ap zones_of others) (ap (λ (s : Service). s.list) others)
   step events (rule_added zone rule) old after holds (grant, others) = kept events (rule_added zone rule) old after refl holds (ap zones_of others) (ap (λ (s : Service). s.list) others)
   step events rules_given old after holds (served, others) =
       record {
         zones = longer events rules_given (zones_of after) refl (given_all by events old.answering.server.keys old.grants.items old.apexes.items (zones_of old) (zones_of after) served.are_given holds.zones);
         no_list = ap (λ (s : Service). s.list) others ∙ holds.no_list;
       }
-  step events (network_allowed network) old after holds (inserts, same, others) = kept events (network_allowed network) old after refl holds (ap zones_of others) (ap (λ (s : Service). s.list) others)
-  step events (network_denied network) old after holds (inserts, same, others) = kept events (network_denied network) old after refl holds (ap zones_of others) (ap (λ (s : Service). s.list) others)
-  step events (transfers_allowed network) old after holds (inserts, same, others) = kept events (transfers_allowed network) old after refl holds (ap zones_of others) (ap (λ (s : Service). s.list) others)
-  step events (transfers_denied network) old after holds (inserts, same, others) = kept events (transfers_denied network) old after refl holds (ap zones_of others) (ap (λ (s : Service). s.list) others)
-  step events (max_udp_set size) old after holds (enough, others) = kept events (max_udp_set size) old after refl holds (ap zones_of others) (ap (λ (s : Service). s.list) others)
-  step events (rate_set rate slip) old after holds (limits, others) = kept events (rate_set rate slip) old after refl holds (ap zones_of others) (ap (λ (s : Service). s.list) others)
-  step events (identifier_set bytes) old after holds others = kept events (identifier_set bytes) old after refl holds (ap zones_of others) (ap (λ (s : Service). s.list) others)
+  step events other_set old after holds same = kept events other_set old after refl holds same.zones same.list
   step events (message_came message outcome) old after holds (answers, before) =
       record {
         zones = from (follow_outcome old (are_alone by events (zones_of old) holds.zones) message (zones_of after) outcome answers);

@@ -1,11 +1,10 @@
 -- One law from the bytes of zone files and messages to the bytes that leave. It is of servers that block no names, and
 -- whose zones have no journals.
-use Rattle.std.specs.Prelude.{◌≡◌, ◌==◌, ◌≤◌, ◌++◌, ◌∷◌, [], ℕ, All, Bool, Contains, List, Some, None, Result, Ok, Err, option_map, true}
+use Rattle.std.specs.Prelude.{◌≡◌, ◌==◌, ◌++◌, ◌∷◌, [], ℕ, All, Bool, Contains, List, None, Result, Ok, Err, option_map, true}
 use Rattle.wire_names.specs.rr.domain.DomainName.{DomainName}
 use Rattle.wire_names.specs.rr.domain.NameOrder.{lower_name}
 use Rattle.wire_messages.specs.Numbers.{code_refused, opcode_update}
 use Rattle.wire_messages.specs.declared.op.query.Query.{Query}
-use Rattle.server_limits.specs.Access.{Inserts, SameNetworks}
 use Rattle.hickory_base.specs.requests.Requests.{ReceivedRequest, TimedRequest}
 use Rattle.hickory_base.specs.zone_store.Lookups.{SignerContext}
 use Rattle.hickory_base.specs.zone_store.ZoneAnswers.{MemoryZone}
@@ -22,7 +21,6 @@ use Rattle.hickory_server.specs.zone_handler.ZoneReplies.{SaysTheReply}
 use Rattle.hickory_server.specs.declared.server.answer.Answer.{Answer}
 use Rattle.hickory_server.specs.declared.server.serve.Incoming.{Incoming}
 use Rattle.hickory_server.specs.declared.server.serve.ServeError.{ServeError}
-use Rattle.served_keys.specs.ServedKeys.{AreKeysOfFile, IsKeyNamed, all_networks}
 use Rattle.served_zones.specs.Given.{updated}
 use Rattle.served_zones.specs.Grants.{IsGrantOf}
 use Rattle.served_zones.specs.ServedQueries.{IsPlainQuery, IsSaidByZone, IsSentAlone}
@@ -40,29 +38,20 @@ use Rattle.update_policy.specs.declared.policy.Rule.{Rule}
 use Rattle.hickory_store.specs.declared.updates.verifier.Verifier.{Ghosts as Verifies}
 use Rattle.zones.specs.ZoneStates.{ZoneState}
 use Rattle.zones.specs.ZoneUpdates.{Updates}
-use Rattle.server.specs.Limited.{AreLimitsOf}
-use Rattle.server.specs.Networks.{InsertsText}
 use Rattle.server.specs.Serving.{Stays}
-use Rattle.server.specs.Settings.{IsUnset, rules_of, with_identifier, with_keys, with_rules, with_transfer_keys, with_zones, zones_of}
+use Rattle.server.specs.Settings.{IsUnset, rules_of, with_zones, zones_of}
 use Rattle.server.specs.Updates.{AreServed}
 use Rattle.server.specs.declared.service.Service.{Service}
 
 -- a setting that a server took, or a message with what became of it
 pub data Event : Type 0 where
-  -- the text of the name of a zone, the bytes of its file, and the apex
+  -- a zone: the text of its name, the bytes of its file, and the apex
   zone_added : (name file : List ℕ) (apex : DomainName) → Event
-  keys_set : (file : List ℕ) → Event
-  transfer_key_allowed : (name : List ℕ) → Event
-  -- the texts of the name of a zone and of a rule of its updates, and that the zones get their rules
+  -- a rule of the updates of a zone, by the texts of both; and that the zones get their rules
   rule_added : (zone rule : List ℕ) → Event
   rules_given : Event
-  network_allowed : (network : List ℕ) → Event
-  network_denied : (network : List ℕ) → Event
-  transfers_allowed : (network : List ℕ) → Event
-  transfers_denied : (network : List ℕ) → Event
-  max_udp_set : (size : ℕ) → Event
-  rate_set : (rate slip : ℕ) → Event
-  identifier_set : (bytes : List ℕ) → Event
+  -- any other setting, of keys, networks, limits or the identifier; but not a list of blocked names
+  other_set : Event
   message_came : (message : Incoming) (outcome : Result Answer ServeError) → Event
 
 -- the apexes of the zones that a server was given, each with the bytes of its file
@@ -74,6 +63,13 @@ files_of (other ∷ events) = files_of events
 -- a message as it came
 abbrev pub arrived : Incoming → Arrival
 arrived message = arrival message.bytes.items message.src message.protocol message.now
+
+-- The zones, their rules and the list of blocked names are as before.
+pub record AreKept (old new : Service) : Type 0 where
+  pub zones : zones_of new ≡ zones_of old
+  pub apexes : new.apexes ≡ old.apexes
+  pub grants : new.grants ≡ old.grants
+  pub list : new.list ≡ old.list
 
 -- Nothing of the server changes for a message but its zones, the replies that wait, what is logged and counted, and
 -- how many replies clients got.
@@ -112,25 +108,10 @@ module _ (handler : Ghosts ServedHandler) (signature_for : LeftToServer → Sign
   abbrev pub Happens : Event → Service → Service → Type 0
   Happens (zone_added name file apex) old new = IsLoadedAs (IsZoneOfFile file) name (option_map (λ it. it.value) old.list) apex (zones_of old) (zones_of new)
       × (new.apexes.items ≡ old.apexes.items ++ apex ∷ []) × (new ≡ with_zones (record old { apexes = new.apexes }) (zones_of new))
-  Happens (keys_set file) old new = AreKeysOfFile file new.answering.server.keys × (new ≡ with_keys old new.answering.server.keys)
-  Happens (transfer_key_allowed text) old new = ((name : DomainName) × IsKeyNamed old.answering.server.keys text name
-      × (new.answering.server.transfer_keys.items ≡ old.answering.server.transfer_keys.items ++ name ∷ []))
-      × Inserts (rules_of old).transfers.deny all_networks (rules_of new).transfers.deny × SameNetworks (rules_of old).transfers.allow (rules_of new).transfers.allow
-      × (new ≡ with_transfer_keys (with_rules old (record (rules_of old) { transfers = (rules_of new).transfers })) new.answering.server.transfer_keys)
   Happens (rule_added zone rule) old new = ((grant : Grant) × IsGrantOf old.answering.server.keys zone rule grant × (new.grants.items ≡ old.grants.items ++ grant ∷ []))
       × (new ≡ record old { grants = new.grants })
   Happens rules_given old new = AreServed old.answering.server.keys old.grants.items old.apexes.items (zones_of old) (zones_of new) × (new ≡ with_zones old (zones_of new))
-  Happens (network_allowed network) old new = InsertsText network (rules_of old).access.allow (rules_of new).access.allow
-      × SameNetworks (rules_of old).access.deny (rules_of new).access.deny × (new ≡ with_rules old (record (rules_of old) { access = (rules_of new).access }))
-  Happens (network_denied network) old new = InsertsText network (rules_of old).access.deny (rules_of new).access.deny
-      × SameNetworks (rules_of old).access.allow (rules_of new).access.allow × (new ≡ with_rules old (record (rules_of old) { access = (rules_of new).access }))
-  Happens (transfers_allowed network) old new = InsertsText network (rules_of old).transfers.allow (rules_of new).transfers.allow
-      × SameNetworks (rules_of old).transfers.deny (rules_of new).transfers.deny × (new ≡ with_rules old (record (rules_of old) { transfers = (rules_of new).transfers }))
-  Happens (transfers_denied network) old new = InsertsText network (rules_of old).transfers.deny (rules_of new).transfers.deny
-      × SameNetworks (rules_of old).transfers.allow (rules_of new).transfers.allow × (new ≡ with_rules old (record (rules_of old) { transfers = (rules_of new).transfers }))
-  Happens (max_udp_set size) old new = (512 ≤ size) × (new ≡ with_rules old (record (rules_of old) { max_udp = size }))
-  Happens (rate_set rate slip) old new = AreLimitsOf rate slip new.limits × (new ≡ record old { limits = new.limits })
-  Happens (identifier_set bytes) old new = new ≡ with_identifier old (Some bytes)
+  Happens other_set old new = AreKept old new
   Happens (message_came came outcome) old new = Answers old came outcome (zones_of new) × IsAsBefore old new
 
   -- What a server is after these settings and messages, of which the last one is the first of the list.
