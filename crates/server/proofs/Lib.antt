@@ -3,4 +3,5 @@ pub mod Results
 pub mod Runs
 pub mod Streams
 pub mod Whole
+pub mod WorkedRuns
 pub mod Written

@@ -15,8 +15,8 @@ use tsig::TsigVerifier;
 /// replies to the question (RFC 1034 section 4.3.2), as the updates that came left that zone (RFC 2136). It says
 /// REFUSED if no file is of a zone for the name.
 ///
-/// The premises: the server blocks no names, and its zones have no journals. The query is of class IN and one question,
-/// and neither for a transfer nor for DS records.
+/// The premises: the server blocks no names, and its zones have no journals. The query has one question, of class IN or
+/// ANY, and is for no transfer. For the DS records of an apex the zone above it is asked (RFC 4035 section 3.1.4.1).
 pub fn replies_are_of_the_files()
     ensures replies { RepliesAreOfTheFiles ⟦<Handler as ZoneHandler>⟧ ⟦<LeftToServer as ReplySigner>⟧.signature_for
         ⟦<TsigVerifier as Verifier>⟧ }

@@ -16,3 +16,4 @@ pub mod service;
 pub mod settings;
 pub mod told;
 pub mod updates;
+pub mod worked;
