@@ -27,9 +27,7 @@ pub enum KeyFault {
     #[error("a key without name, algorithm or secret")]
     MissingField,
     /// The algorithm is not one of `Algorithm`.
-    #[error(
-        "unknown algorithm; expected hmac-sha256, hmac-sha256-128, hmac-sha384, hmac-sha384-192, hmac-sha512 or hmac-sha512-256"
-    )]
+    #[error("unknown algorithm; expected hmac-sha256, hmac-sha256-128, hmac-sha384, hmac-sha384-192, hmac-sha512 or hmac-sha512-256")]
     Algorithm,
     /// The name is not a domain name.
     #[error("not a name")]
