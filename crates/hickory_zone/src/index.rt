@@ -1,7 +1,7 @@
 //! The sets of a zone in an order that is searched by numbers, and what updates have changed since.
 
-ghost use Rattle.std.specs.Prelude.{◌≡◌, ◌<◌, ◌≤◌, ◌∷◌, IfOk, IfSome, IsTrue, Some, drop, false, length, true};
-ghost use Rattle.std.specs.List.{Contains, slice_get};
+ghost use Rattle.std.specs.Prelude.{◌≡◌, ◌<◌, ◌≤◌, ◌+◌, ◌∷◌, ℕ, IfOk, IfSome, IsTrue, Some, drop, false, length, true};
+ghost use Rattle.std.specs.List.{slice_get};
 ghost use Rattle.std.specs.List.Sorted.{IsStrictlySortedBy};
 ghost use Rattle.std.specs.Map.{keys_of};
 ghost use Rattle.std.specs.Ordering.{is_lt};
@@ -13,7 +13,7 @@ ghost use Rattle.wire_messages.specs.rr.RrKeys.{key_cmp};
 ghost use Rattle.hickory_base.specs.zone_store.ZoneSets.{AreSetsInOrder, sets_of, shared_sets};
 ghost use Rattle.hickory_zone.specs.representation.Features.{AreFeatures};
 ghost use Rattle.hickory_zone.specs.representation.FoundRecords.{CutAbove};
-ghost use Rattle.hickory_zone.specs.representation.Indexes.{AreWordsOf, IsIndexBut, IsIndexOf, IsPlaceOf, IsSearched, IsUnmarked, IsWordOf, KeepsOthers, Marks};
+ghost use Rattle.hickory_zone.specs.representation.Indexes.{AreMarked, AreWordsOf, IsClearAt, IsIndexBut, IsIndexOf, IsPlaceOf, IsSearched, IsUnmarked, IsWordOf, KeepsOthers, Marks};
 ghost use Rattle.hickory_zone.specs.representation.KeysBeside.{Entry};
 ghost use Rattle.hickory_zone.specs.representation.TopCuts.{HasGlue, servers_at};
 ghost use Rattle.hickory_zone.specs.Zones.{AreOwners, Records, Sets};
@@ -48,12 +48,11 @@ pub(crate) struct Index {
     cuts: Cuts,
     // The addresses of the servers at each cut, as a referral has them.
     glue: Vec<Vec<Record>>,
-    // Whether a name may have changed, by the place of its first key: among the entries, or where it would be.
+    // Whether a name may have changed, by the place of its first key, among the entries or where it would be, and by
+    // the places of its entries.
     marks: Vec<bool>,
     // How many names were marked.
     changes: usize,
-    // Whether the zone still has the entries, and no others.
-    is_whole: bool,
     // Whether each name still has the NS records that it has among the entries, or none.
     has_servers: bool,
     // Whether each name still has the addresses that it has among the entries, or none.
@@ -72,7 +71,6 @@ impl Model for Index {
       apex = index.apex;
       entries = index.entries.items;
       marks = index.marks.items;
-      is_whole = index.is_whole;
       has_servers = index.has_servers;
       has_addresses = index.has_addresses;
     } };
@@ -83,11 +81,20 @@ impl Model for Index {
         index.glue.items × (length index.marks.items ≡ length index.entries.items + 1) };
 }
 
+/// The sets of an index before a key.
+#[derive(Clone, Copy)]
+pub(crate) struct Before<'z> {
+    /// The sets, as they were when the index was made.
+    pub(crate) sets: &'z [SharedSet],
+    /// Whether the name of the set at the same place may have changed since.
+    pub(crate) marks: &'z [bool],
+}
+
 /// The sets of an index on both sides of a key.
 #[derive(Clone, Copy)]
 pub(crate) struct Sides<'z> {
-    /// The sets before the key, as long as no update has changed the zone, and else none.
-    pub(crate) before: &'z [SharedSet],
+    /// The sets before the key.
+    pub(crate) before: Before<'z>,
     /// The sets from the key on.
     pub(crate) from: &'z [SharedSet],
     /// Whether the key's place has no mark.
@@ -150,6 +157,24 @@ pub(crate) fn place_of(
     low
 }
 
+/// Marks a place, and from there on those of the sets of the key's name.
+fn mark_name(entries: &[SharedSet], marks: &mut Vec<bool>, place: usize, first: &RrKey)
+    requires within { place ≤ length entries.now }
+    requires marks { length marks.old.items ≡ length entries.now + 1 }
+    requires least { first.now.record_type ≡ 0 }
+    requires ordered { IsStrictlySortedBy key_cmp (keys_of entries.now) }
+    requires place { IsPlaceOf first.now entries.now place }
+    ensures len { length marks.new.items ≡ length marks.old.items }
+    ensures is { AreMarked first.now entries.now place marks.old.items marks.new.items }
+{
+    marks[place] = true;
+    let mut next = place;
+    while next < entries.len() && first.name == entries[next].0.name {
+        marks[next] = true;
+        next += 1;
+    }
+}
+
 /// Whether names have what they had of a kind of records, where one more may have changed: it had none of the kind
 /// before, and has none after.
 fn is_still(so_far: bool, before: bool, after: bool) -> bool
@@ -190,7 +215,6 @@ impl Index {
             glue,
             marks,
             changes: 0,
-            is_whole: true,
             has_servers: true,
             has_addresses: true,
         })
@@ -222,8 +246,8 @@ impl Index {
     #[inline(always)]
     pub(crate) fn beside_key(&self, first: &RrKey) -> Sides<'_>
         requires { Encloses self.now.apex.labels first.now.name.labels }
-        ensures before { (e : Entry) → Contains result.before.now e →
-            (self.now.is_whole ≡ true) × Contains self.now.entries e }
+        ensures before { (place : ℕ) (e : Entry) → IsClearAt result.before.sets.now result.before.marks.now place e →
+            IsClearAt self.now.entries self.now.marks place e }
         ensures unmarked { result.is_unmarked ≡ true → IsUnmarked self.now first.now }
         ensures is { result.from.now ≡ entries_between key_cmp (Included first.now) Unbounded self.now.entries }
         ensures ordered { IsStrictlySortedBy key_cmp (keys_of self.now.entries) }
@@ -232,10 +256,9 @@ impl Index {
         let place = place_of(&self.apex, entries, self.words.as_slice(), first);
         let marks = self.marks.as_slice();
         Sides {
-            before: if self.is_whole {
-                &entries[..place]
-            } else {
-                &[]
+            before: Before {
+                sets: &entries[..place],
+                marks,
             },
             from: &entries[place..],
             is_unmarked: !marks[place],
@@ -266,15 +289,17 @@ impl Index {
             glue,
         })
     }
-    /// Marks the place of a key, whose name is at the apex or below it.
+
+    /// Marks the place of a key, whose name is at the apex or below it, and the sets of that name. No type is below that
+    /// of the key.
     fn mark(&mut self, first: &RrKey)
+        requires least { first.now.record_type ≡ 0 }
         requires within { Encloses self.old.apex.labels first.now.name.labels }
         ensures { Marks first.now self.old self.new }
     {
         let entries = self.entries.as_slice();
         let place = place_of(&self.apex, entries, self.words.as_slice(), first);
-        self.marks[place] = true;
-        self.is_whole = false;
+        mark_name(entries, &mut self.marks, place, first);
         self.changes = self.changes.saturating_add(1);
     }
 

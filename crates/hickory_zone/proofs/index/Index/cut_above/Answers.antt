@@ -44,7 +44,6 @@ returns-clause-glue c =
             apex = c.self.inside.apex;
             entries = c.self.inside.entries.items;
             marks = c.self.inside.marks.items;
-            is_whole = c.self.inside.is_whole;
             has_servers = c.self.inside.has_servers;
             has_addresses = c.self.inside.has_addresses;
           }) c.self.inside.cuts.entries.items c.self.inside.glue.items c.in-Some.top section

@@ -15,7 +15,6 @@ returns c = λ done origin rest of.
       apex = c.self.inside.apex;
       entries = c.self.inside.entries.items;
       marks = c.self.inside.marks.items;
-      is_whole = c.self.inside.is_whole;
       has_servers = c.self.inside.has_servers;
       has_addresses = c.self.inside.has_addresses;
     } in

@@ -1,4 +1,4 @@
-use Rattle.std.proofs.Common.{◌≡◌, ◌∙◌, ◌++◌, false, length, List, [], ◌∷◌, sym, subst, ap, append_assoc, arith, length-append}
+use Rattle.std.proofs.Common.{◌≡◌, ◌∙◌, ◌++◌, ℕ, false, length, List, [], ◌∷◌, sym, subst, ap, append_assoc, arith, length-append}
 use Rattle.std.specs.Map.{keys_of}
 use Rattle.std.specs.List.{AllByRecursion}
 use Rattle.std.specs.List.Sorted.{IsStrictlySortedBy}
@@ -11,7 +11,8 @@ use Rattle.hickory_zone.specs.representation.Indexes.{AreWordsOf, IsWordOf}
 use Rattle.hickory_zone.specs.representation.KeysBeside.{Entry}
 use Rattle.hickory_zone.specs.representation.TopCuts.{AreCutsOf, AreGlueOf}
 use Rattle.wire_names.specs.rr.domain.DomainName.{DomainName}
-use Rattle.hickory_zone.specs.Zones.{IsOwner, Sets}
+use Rattle.hickory_zone.proofs.lemmas.zones.TopCutsMade.{own_set}
+use Rattle.hickory_zone.specs.Zones.{IsOwner, Sets, rrset}
 use Rattle.hickory_zone.proofs.lemmas.zones.Indexed.{one_more}
 use Rattle.hickory_zone.proofs.index.Index.new.Goals as goal
 
@@ -82,3 +83,18 @@ invariant_of-result c =
       subst (λ (d : DomainName). AreGlueOf (record { origin = d; sets = shared_sets entries }) c.in_ok-cuts.cuts.entries.items c.in_ok-glue.glue.items) (sym apex) glue,
       omega (arith, c.loop-key.invariant.marks, ap length c.in_ok-push-4.ensures.items, length-append c.loop-key.marks.items (false ∷ [])),
     )
+
+pub returns : goal.returns
+returns c =
+    let entries = c.loop-key.entries.items in
+    let whole : shared_sets entries ≡ sets_of c.args.sets.now = all_put entries c.loop-key.key-iterator (sets_of c.args.sets.now) c.loop-key.invariant.sets c.in-None.ensures.steps.0 in
+    let still = λ (name : DomainName) (t : ℕ). ap (λ (sets : Sets). rrset sets name t) (sym whole) in
+    record {
+      apex = c.in_ok-clone-3.ensures.cases;
+      held = λ place e clear none. still e.0.name e.0.record_type
+          ∙ own_set entries place e (in_order entries c.loop-key.key-iterator (sets_of c.args.sets.now) c.loop-key.invariant.sets c.in-None.ensures.steps.0 c.requires.ordered) clear.there;
+      unmarked = λ name t none clear. still name t;
+      servers = λ name none has. still name 2;
+      four = λ name none has. still name 1;
+      six = λ name none has. still name 28;
+    }
