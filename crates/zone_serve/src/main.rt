@@ -314,17 +314,7 @@ fn tell<R: Eprint>(rt: &R, fault: Fault) -> u8 {
     fault.status()
 }
 
-/// Reports a fault of an argument, with its option and its value, and gives its status.
-fn tell_of_argument<R: Eprint>(rt: &R, arguments: &[String], place: usize, fault: Fault) -> u8 {
-    let before = &arguments[..arguments.len().min(place)];
-    let [.., option, value] = before else {
-        return tell(rt, fault);
-    };
-    let _ = eprintln!(rt; "zone_serve: {option}: {fault}: {value:?}");
-    fault.status()
-}
-
-/// Reports a fault of a file on the standard error, and gives its status.
+/// Tells a fault of a file on the standard error, and gives its status.
 fn tell_of_file<R: Eprint>(rt: &R, file: &str, fault: Fault) -> u8 {
     let _ = eprintln!(rt; "zone_serve: {file}: {fault}");
     fault.status()
@@ -333,6 +323,16 @@ fn tell_of_file<R: Eprint>(rt: &R, file: &str, fault: Fault) -> u8 {
 /// Reports a fault of a connection on the standard error, and gives its status.
 fn tell_of_peer<R: Eprint>(rt: &R, address: IpAddr, fault: Fault) -> u8 {
     let _ = eprintln!(rt; "zone_serve: {address}: {fault}");
+    fault.status()
+}
+
+/// Reports a fault of an argument, with its option and its value, and gives its status.
+fn tell_of_argument<R: Eprint>(rt: &R, arguments: &[String], place: usize, fault: Fault) -> u8 {
+    let before = &arguments[..arguments.len().min(place)];
+    let [.., option, value] = before else {
+        return tell(rt, fault);
+    };
+    let _ = eprintln!(rt; "zone_serve: {option}: {fault}: {value:?}");
     fault.status()
 }
 
