@@ -109,7 +109,7 @@ fn rules_are_of_zones() {
     service.add_zone("example.com", ZONE).unwrap();
     service.set_keys(b"hmac-sha256:one.example:MTIzNDU2Nzg5MGFiY2RlZjEyMzQ1Njc4OTBhYmNkZWY=\n").unwrap();
     service.allow_update("example.org", "one.example").unwrap();
-    assert_eq!(service.serve_zones().unwrap_err().0, "rule 1 of who may update is of no zone that is served");
+    assert_eq!(service.serve_zones().unwrap_err().0, "rule 1 of who may update is for a zone that is not served");
 }
 
 #[test]
