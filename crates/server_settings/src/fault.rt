@@ -6,9 +6,14 @@ use toml::de::Error;
 /// Why a text is no list of settings.
 #[derive(Debug, Drop, Told)]
 pub enum SettingsFault {
-    /// It is not TOML 1.1, or not UTF-8; the fault tells where.
-    #[error("{0}")]
-    Syntax(Error),
+    /// It is not TOML 1.1, or not UTF-8.
+    #[error("{line}: {}", .error.message())]
+    Syntax {
+        /// What is wrong.
+        error: Error,
+        /// The line of it, from 1.
+        line: usize,
+    },
     /// There is no option of this name.
     #[error("{line}: there is no option {name:?}")]
     UnknownOption {
