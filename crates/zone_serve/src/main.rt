@@ -344,13 +344,13 @@ fn tell_of_peer<R: Eprint>(rt: &R, address: IpAddr, fault: Fault) -> u8 {
     fault.status()
 }
 
-/// Reports a fault of an argument, with its option and its value, and gives its status.
+/// Reports a fault of an argument after its option and its value, and gives its status.
 fn tell_of_argument<R: Eprint>(rt: &R, arguments: &[String], place: usize, fault: Fault) -> u8 {
     let before = &arguments[..arguments.len().min(place)];
     let [.., option, value] = before else {
         return tell(rt, fault);
     };
-    let _ = eprintln!(rt; "zone_serve: {option}: {fault}: {value:?}");
+    let _ = eprintln!(rt; "zone_serve: {option}: {value:?}: {fault}");
     fault.status()
 }
 
