@@ -160,7 +160,7 @@ static char *read_settings(const char *path, const uint8_t *text, size_t len, si
             is = zone_service_read_settings(names, names_len, text, len, (uint8_t *)read, room, put, FAULT);
     } while (fault_len == sizeof NO_ROOM - 1 && memcmp(fault, NO_ROOM, fault_len) == 0);
     if (read == NULL)
-        say("%s: no memory for its settings", path);
+        say("no memory");
     else if (told(path, path, is) == 0)
         return read;
     free(read);
