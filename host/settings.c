@@ -243,7 +243,7 @@ int read_arguments(char **arguments) {
 static int set(zone_service *service, const struct option *o, const char *text) {
     const char *mark = o->set_pair != NULL ? strchr(text, '=') : NULL, *value = mark != NULL ? mark + 1 : text;
     char what[sizeof said];
-    snprintf(what, sizeof what, "%s: \"%s\"", o->name, text);
+    snprintf(what, sizeof what, "%s: \"%.250s\"", o->name, text);
     size_t len = strlen(value);
     uint8_t *bytes = o->is_file ? read_file(value, &len) : (uint8_t *)strdup(value);
     if (bytes == NULL)

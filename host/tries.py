@@ -1464,7 +1464,7 @@ def try_control(folder, port):
     want("querylog off and on begins a file that was moved away", control(path, "querylog", "off")[0] == control(path, "querylog", "on")[0] == 0 and udp(query("www.example.com"), port=port) and goes_on(lambda: len(open(log).readlines()) == 1, 2))
     for words in (["nonsense"], ["querylog"], ["querylog", "maybe"], ["x" * 500]):
         status_is, said = control(path, *words)
-        want("what is not a command is reported", status_is == 1 and said.endswith(": not a command of zonedctl\n"))
+        want("what is not a command is reported", status_is == 1 and said.endswith('" is not a command of zonedctl\n'))
     want("no command is too few, and three are too many", [control(None)[0], control(path, "querylog", "on", "now")[0]] == [2, 2])
     with socket.socket(socket.AF_UNIX, socket.SOCK_STREAM) as s:
         s.connect(path)
@@ -1548,6 +1548,9 @@ def try_starts(folder, zone, port):
         other.bind(path[:107])
         status_is, said = told([*here, "--statistics", path])
         want("a path that is too long for a socket is told, and removes nothing", status_is == 1 and "has more than 107 bytes" in said and os.path.exists(path[:107]))
+    want("a user that does not exist is told", told([*here, "--user", "no-such-user"]) == (1, 'zoned: --user: no such user: "no-such-user"\n'))
+    many = [it for last in range(1, 18) for it in ("--listen", f"127.0.0.{last}@{port}")]
+    want("more than 16 addresses are refused", told([*many, "--zone", f"example.com={zone}"]) == (1, "zoned: --listen is given more than 16 times\n"))
     for place, why in ((folder, "it is not a regular file"), (os.path.join(folder, "none"), "No such file or directory")):
         want(f"it is told why a file cannot be read: {why}", told(["--check", "--zone", f"example.com={place}"]) == (1, f"zoned: {place}: cannot be read: {why}\n"))
     keys = os.path.join(folder, "both")
@@ -1587,6 +1590,10 @@ def try_arguments(zone, bad):
     want("--listen beside sockets of systemd is told", (adopted.returncode, adopted.stderr) == (2, "zoned: --listen is given, and systemd has opened the sockets (LISTEN_FDS)\n"))
     want("a wrong network is told", told(["--check", *here, "--allow", "1.2.3"]) == (1, 'zoned: --allow: "1.2.3": not an address\n'))
     want("a wrong name of a zone is told", told(["--check", "--zone", f"a..b={zone}"]) == (1, f'zoned: --zone: "a..b={zone}": not the name of a zone\n'))
+    long = told(["--check", *here, "--nsid", "x" * 65532])
+    want("a long identifier is told, and only its front is quoted", long == (1, f'zoned: --nsid: "{"x" * 250}": the identifier is too long\n'))
+    said = subprocess.run([ZONED, "--check", *here, "--allow", b"\xff"], stderr=subprocess.PIPE).stderr
+    want("a text that is not UTF-8 is told", said == b'zoned: --allow: "\xff": not UTF-8\n')
     want("one zone twice is told", told(["--check", *here, *here]) == (1, f'zoned: --zone: "example.com={zone}": there is a zone of this name already\n'))
     for address in ("127.0.0.1:5390", "localhost@5390", "127.0.0.1@0", "127.0.0.1@65536", "127.0.0.1@99999", "127.0.0.1@", "127.0.0.1@5x"):
         want(f'the address "{address}" is refused', told(["--listen", address, *here]) == (1, f'zoned: --listen: "{address}" is not ADDRESS[@PORT] with a port from 1 to 65535\n'))
@@ -1622,7 +1629,7 @@ def try_configuration(folder, zone, port):
         "a value of no kind, with its line": ("workers = 1\n\nmax-udp = 1.5\n", "zoned.toml:3: \"max-udp\" must be "),
         "a name without quotes in a table": ("[zone]\na.example = 'x'\n", "zoned.toml:2: \"zone\" must be "),
         "a name of no option in a zone": (f'[[zone]]\nname = "example.com"\nfile = "{zone}"\nfiles = 1\n', "zoned.toml:4: \"zone\" must be "),
-        "what is no TOML": ("workers = 1\nlisten = [\n", "line"),
+        "what is no TOML, with its line": ("workers = 1\nlisten = ?\n", "zoned.toml:2: invalid value"),
         "a number that is too large": ("workers = 65\n", 'zoned: --workers: "65" is not a number from 1 to 64\n'),
         "a byte that no string of C has": ('nsid = "a\\u0000b"\n', "zero byte"),
     }
