@@ -1,8 +1,9 @@
 //! What the program is started with.
 
-ghost use Rattle.std.specs.Prelude.{◌≡◌, [], codes, IfOk, IfSome, IsNone, OnOk, map, string_bytes};
+ghost use Rattle.std.specs.Prelude.{◌≡◌, [], codes, IfErr, IfOk, IfSome, IsNone, OnOk, map, string_bytes};
 ghost use Rattle.server_limits.specs.NetworkTexts.{IsNetworkText};
-ghost use Rattle.serve_options.specs.Arguments.{ArgumentsSay, IsBound, IsOfOneProcess, IsUpdateText, IsZoneText, OptionsSay, Takes, mode_word};
+ghost use Rattle.serve_options.specs.declared.arguments.Wanted.TheVariants as wanted;
+ghost use Rattle.serve_options.specs.Arguments.{ArgumentsSay, IsBound, IsOfOneProcess, IsUpdateText, IsValueFault, IsZoneText, OptionsSay, Takes, mode_word};
 
 use server_limits::access_control::IpNet;
 use std::alloc::{AllocError, AllocFailed, Global};
@@ -235,7 +236,8 @@ fn fault_of<'a>(word: &'a str) -> ArgumentFault<'a> {
 
 /// The network that the value of an option spells.
 fn network<'a>(option: &'a str, text: &'a str) -> Result<IpNet, ArgumentFault<'a>>
-    ensures { IfOk result (IsNetworkText text.now) }
+    ensures spelled { IfOk result (IsNetworkText text.now) }
+    ensures refused { IfErr result (IsValueFault option.now text.now wanted.Network) }
 {
     match text.parse::<IpNet>() {
         Ok(network) => Ok(network),
@@ -249,7 +251,8 @@ fn network<'a>(option: &'a str, text: &'a str) -> Result<IpNet, ArgumentFault<'a
 
 /// The bound on replies over UDP that the value of an option spells.
 fn max_udp<'a>(option: &'a str, text: &'a str) -> Result<u16, ArgumentFault<'a>>
-    ensures { IfOk result (IsBound text.now) }
+    ensures spelled { IfOk result (IsBound text.now) }
+    ensures refused { IfErr result (IsValueFault option.now text.now wanted.Number) }
 {
     match text.parse::<u16>() {
         Ok(size) if size >= 512 => Ok(size),
@@ -267,7 +270,8 @@ fn zone_argument<'a>(
     text: &'a str,
     place: usize,
 ) -> Result<ZoneArgument<'a>, ArgumentFault<'a>>
-    ensures { IfOk result (IsZoneText text.now) }
+    ensures spelled { IfOk result (IsZoneText text.now) }
+    ensures refused { IfErr result (IsValueFault option.now text.now wanted.Zone) }
 {
     match text.split_once('=') {
         Some((name, file)) if !file.is_empty() => Ok(ZoneArgument { name, file, place }),
@@ -285,7 +289,8 @@ fn update_argument<'a>(
     text: &'a str,
     place: usize,
 ) -> Result<UpdateArgument<'a>, ArgumentFault<'a>>
-    ensures { IfOk result (IsUpdateText text.now) }
+    ensures spelled { IfOk result (IsUpdateText text.now) }
+    ensures refused { IfErr result (IsValueFault option.now text.now wanted.Rule) }
 {
     match text.split_once('=') {
         Some((zone, rule)) => Ok(UpdateArgument { zone, rule, place }),
