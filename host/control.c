@@ -44,7 +44,7 @@ static void obey(int fd, const char *line) {
     while (it < end && strcmp(it->line, line) != 0)
         it++;
     if (it == end)
-        say("%s: not a command of zonedctl", line);
+        say("\"%s\" is not a command of zonedctl", line);
     bool is_done = it < end && (it->obey == NULL || it->obey());
     dprintf(fd, is_done ? "ok\n%s" : "failed\n%s\n", is_done ? "" : said);
     if (is_done && it->write != NULL)

@@ -62,7 +62,7 @@ void zone_service_free(zone_service service);
  * text that says why into fault, of at most room bytes and without a zero after it; *length is how many they are. After
  * DONE it is 0, unless lines of a list of blocked names were skipped. After FAULT and MEMORY the server is to be freed: a
  * list of networks may be as before or not, and zone_service_add_zone may have put its zone in place of another zone of
- * that name. Of a file of keys a text says only where it is wrong.
+ * that name. The place in a file comes first, as LINE: or LINE:COLUMN:. No text has a part of a file of keys.
  *
  * zone_service_set_blocklist: the names that the lines of a list give, in any of the forms of
  *     docs/reference/zone-files.md, at least one; a second list takes the place of the first. If lines are skipped, the

@@ -82,22 +82,31 @@ fn given_words<R: Env + Alloc<A = Global>>(rt: &R) -> Result<Vec<String>, Fault>
     }
 }
 
-/// The address of the peer in a variable of the environment, if it is set.
-fn told_peer<R: Env + Alloc<A = Global>>(rt: &R, name: &str) -> Result<Option<IpAddr>, Fault> {
+/// Reports that a variable of the environment is not an address, and gives the status.
+fn tell_of_variable<R: Eprint>(rt: &R, name: &str, text: &str) -> u8 {
+    let _ = eprintln!(rt; "zone_serve: {name}: {text:?} is not an IP address");
+    2
+}
+
+/// The address of the peer in a variable of the environment, if it is set. A fault is reported, and gives the status.
+fn told_peer<R: Env + Eprint + Alloc<A = Global>>(
+    rt: &R,
+    name: &str,
+) -> Result<Option<IpAddr>, u8> {
     match env::var(rt, name) {
         Ok(text) => match peer::address(text.as_str()) {
             Some(address) => Ok(Some(address)),
-            None => Err(Fault::Peer),
+            None => Err(tell_of_variable(rt, name, text.as_str())),
         },
         Err(VarError::NotPresent) => Ok(None),
-        Err(VarError::NotUnicode) => Err(Fault::Peer),
-        Err(VarError::OutOfMemory) => Err(Fault::Memory),
+        Err(VarError::NotUnicode) => Err(tell_of_variable(rt, name, "\u{fffd}")),
+        Err(VarError::OutOfMemory) => Err(tell(rt, Fault::Memory)),
     }
 }
 
 /// The address of the peer, as systemd gives it (`REMOTE_ADDR`), or socat (`SOCAT_PEERADDR`), and 127.0.0.1 if neither
-/// does.
-fn peer_address<R: Env + Alloc<A = Global>>(rt: &R) -> Result<IpAddr, Fault> {
+/// does. A fault is reported, and gives the status.
+fn peer_address<R: Env + Eprint + Alloc<A = Global>>(rt: &R) -> Result<IpAddr, u8> {
     if let Some(address) = told_peer(rt, "REMOTE_ADDR")? {
         return Ok(address);
     }
@@ -132,7 +141,9 @@ fn load<R: Eprint + Alloc<A = Global>, O: FileOpener, D: Disk + Drop>(
     if put_chain(rt.alloc(), catalog, &apex, chain)? {
         Ok(apex)
     } else {
-        Err(Fault::ZoneTwice { place })
+        Err(Fault::ZoneTwice {
+            place: argument.place,
+        })
     }
 }
 
@@ -290,9 +301,7 @@ fn serve(rt: &HostRuntime, settings: &Settings<'_>, address: IpAddr) -> Result<(
 /// The file that a fault is of.
 fn file_of<'a>(settings: &Settings<'a>, fault: Fault) -> Option<&'a str> {
     match fault {
-        Fault::Zone { place, .. } | Fault::ZoneTwice { place } => {
-            settings.zones.get(place).map(|zone| zone.file)
-        }
+        Fault::Zone { place, .. } => settings.zones.get(place).map(|zone| zone.file),
         Fault::List { place, .. } => settings.blocklists.get(place).copied(),
         Fault::Keys { .. } => settings.keys,
         Fault::Journal { place, .. } | Fault::Unwritten { place } => {
@@ -329,31 +338,42 @@ fn tell_of_file<R: Eprint>(rt: &R, file: &str, fault: Fault) -> u8 {
     fault.status()
 }
 
-/// Tells a fault of a connection on the standard error, and gives its status.
+/// Reports a fault of a connection on the standard error, and gives its status.
 fn tell_of_peer<R: Eprint>(rt: &R, address: IpAddr, fault: Fault) -> u8 {
     let _ = eprintln!(rt; "zone_serve: {address}: {fault}");
     fault.status()
 }
 
-/// Runs the program with these settings, and gives its status.
-fn run_settings(rt: &HostRuntime, settings: &Settings<'_>) -> u8 {
+/// Reports a fault of an argument after its option and its value, and gives its status.
+fn tell_of_argument<R: Eprint>(rt: &R, arguments: &[String], place: usize, fault: Fault) -> u8 {
+    let before = &arguments[..arguments.len().min(place)];
+    let [.., option, value] = before else {
+        return tell(rt, fault);
+    };
+    let _ = eprintln!(rt; "zone_serve: {option}: {value:?}: {fault}");
+    fault.status()
+}
+
+/// Runs the program with the settings of its arguments, and gives its status.
+fn run_settings(rt: &HostRuntime, arguments: &[String], settings: &Settings<'_>) -> u8 {
     let address = match peer_address(rt) {
         Ok(address) => address,
-        Err(fault) => return tell(rt, fault),
+        Err(status) => return status,
     };
     match serve(rt, settings, address) {
         Ok(()) => 0,
-        Err(fault) => match file_of(settings, fault) {
-            Some(file) => tell_of_file(rt, file, fault),
-            None if fault.status() == 1 && settings.mode != Mode::Lines => {
+        Err(fault) => match (fault.argument(), file_of(settings, fault)) {
+            (Some(place), _) => tell_of_argument(rt, arguments, place, fault),
+            (None, Some(file)) => tell_of_file(rt, file, fault),
+            _ if fault.status() == 1 && settings.mode != Mode::Lines => {
                 tell_of_peer(rt, address, fault)
             }
-            None => tell(rt, fault),
+            _ => tell(rt, fault),
         },
     }
 }
 
-/// Tells what is wrong with the arguments on the standard error, and gives its status.
+/// Reports what is wrong with the arguments on the standard error, and gives its status.
 fn tell_of_arguments<R: Eprint>(rt: &R, fault: ArgumentFault<'_>) -> u8 {
     let _ = eprintln!(rt; "zone_serve: {fault}");
     match fault {
@@ -393,7 +413,7 @@ fn printed<R: Eprint>(rt: &R, ended: io::Result<()>) -> u8 {
 /// Runs the program with these options, and gives its status.
 fn read_settings(rt: &HostRuntime, arguments: &[String]) -> u8 {
     match Settings::read(rt.alloc(), arguments) {
-        Ok(settings) => run_settings(rt, &settings),
+        Ok(settings) => run_settings(rt, arguments, &settings),
         Err(fault) => tell_of_arguments(rt, fault),
     }
 }
