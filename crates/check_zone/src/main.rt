@@ -78,7 +78,7 @@ fn tell_of_entry<R: Eprint>(rt: &R, file: &str, error: ZoneFileError) -> u8 {
     if error == ZoneFileError::Memory {
         return tell_of_file(rt, file, FileFault::Memory);
     }
-    let _ = eprintln!(rt; "check_zone: {file}: {error}");
+    let _ = eprintln!(rt; "check_zone: {file}:{error}");
     5
 }
 

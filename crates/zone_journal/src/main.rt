@@ -37,6 +37,7 @@ use crate::zone::{empty_zone, print_zone, with_entries, zone_of_file};
 use crate::zone_file::read_zone_of;
 use clap::error::ErrorKind;
 use clap::{Arg, ArgAction, ArgMatches, Command, Error};
+use hickory_server::store::file::ZoneError;
 use hickory_wire::{Name, NameError};
 use journal::{ending_at, generation, is_journal, read_entries};
 use journal_entries::{Entry, Part, behind, entry_of};
@@ -160,12 +161,16 @@ fn tell<R: Eprint>(rt: &R, fault: Fault) -> u8 {
     fault.status()
 }
 
-/// Tells why a file is not taken on the standard error, and gives the status. Want of memory is of no file.
+/// Reports the fault of a file on the standard error, and gives the status. A fault that is not of the file is reported
+/// without its name.
 fn tell_of_file<R: Eprint>(rt: &R, file: &str, fault: Fault) -> u8 {
     if fault.status() != 5 {
         return tell(rt, fault);
     }
-    let _ = eprintln!(rt; "zone_journal: {file}: {fault}");
+    let _ = match fault {
+        Fault::Zone(ZoneError::Text(placed)) => eprintln!(rt; "zone_journal: {file}:{placed}"),
+        _ => eprintln!(rt; "zone_journal: {file}: {fault}"),
+    };
     fault.status()
 }
 

@@ -39,7 +39,7 @@ use crate::groups::{Holder, Watch, serve_lines};
 use crate::holder::JournalHolder;
 use crate::included::zone_of;
 use crate::journals::{JournalWatch, SystemFiles, open_journals};
-use crate::keys::{keys_of, transfer_keys_of};
+use crate::keys::{KeyFileFault, keys_of, transfer_keys_of};
 use crate::lists::blocklist;
 use crate::server::{apex_of, identifier_of, rules_of};
 use crate::serving::{serve_datagram, serve_stream};
@@ -49,13 +49,16 @@ use hickory_server::VERSION;
 use hickory_server::proto::Name;
 use hickory_server::server::Server;
 use hickory_server::store::blocklist::BlocklistZoneHandler;
+use hickory_server::store::file::ZoneError;
 use hickory_server::zone_handler::{Catalog, ZoneHandler};
 use hickory_server::zone_store::Either;
 use hickory_server::zone_text::FileOpener;
 use serve_options::arguments::{ArgumentFault, Mode, Settings, ZoneArgument};
+use served_keys::files::KeysFault;
 use served_zones::chains::{chain, put_chain};
 use served_zones::grants::grant_updates;
 use served_zones::handler::{Handler, Zones};
+use served_zones::zone_files::ZoneFault;
 use signed_server::{LeftToServer, SignedServer};
 use sqlite_disk::Disk;
 use sqlite_std_file::File;
@@ -305,9 +308,24 @@ fn tell<R: Eprint>(rt: &R, fault: Fault) -> u8 {
     fault.status()
 }
 
-/// Tells a fault of a file on the standard error, and gives its status.
+/// Whether the message of a fault of a file begins with its line.
+fn has_line(fault: Fault) -> bool {
+    match fault {
+        Fault::Zone { fault, .. } => {
+            matches!(fault, ZoneFileFault::Zone(ZoneFault::Zone(ZoneError::Text(_))))
+        }
+        Fault::Keys { fault } => matches!(fault, KeyFileFault::Keys(KeysFault::Text(_))),
+        _ => false,
+    }
+}
+
+/// Reports a fault of a file on the standard error, and gives its status.
 fn tell_of_file<R: Eprint>(rt: &R, file: &str, fault: Fault) -> u8 {
-    let _ = eprintln!(rt; "zone_serve: {file}: {fault}");
+    let _ = if has_line(fault) {
+        eprintln!(rt; "zone_serve: {file}:{fault}")
+    } else {
+        eprintln!(rt; "zone_serve: {file}: {fault}")
+    };
     fault.status()
 }
 
