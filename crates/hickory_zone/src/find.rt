@@ -11,7 +11,6 @@ ghost use Rattle.wire_names.specs.rr.domain.DomainName.{AreLabels, IsWire, wire_
 ghost use Rattle.hickory_zone.specs.representation.Features.{AreFeatures, IsOfLength};
 ghost use Rattle.hickory_zone.specs.representation.FoundRecords.{first_or};
 ghost use Rattle.hickory_zone.specs.representation.Indexes.{AreStill, IsClearAt, IsIndexOf, IsUnmarked};
-ghost use Rattle.std.specs.List.{slice_get};
 ghost use Rattle.hickory_zone.specs.representation.KeysBeside.{Entry, SharedMap, StandsBehind};
 ghost use Rattle.std.specs.Option.{unwrap_or};
 ghost use Rattle.wire_names.specs.rr.domain.DomainName.{DomainName};
@@ -22,7 +21,7 @@ ghost use Rattle.wire_messages.specs.Numbers.{type_a, type_aaaa, type_any, type_
 
 use crate::cuts::Cut;
 use crate::features::{Features, has_length};
-use crate::index::{Before, Index};
+use crate::index::{Before, Index, is_clear};
 use crate::redirections::{Redirection, redirection_from, redirection_of};
 use crate::wildcards::{is_wildcard_beside, wildcard_below};
 use hickory_base::zone_store::RecordSet;
@@ -183,43 +182,21 @@ fn node_by<'z>(
     node_at(sets, first, record_type)
 }
 
-/// Whether a name owns what referrals are made of.
-#[derive(Clone, Copy)]
-pub(crate) struct Delegating {
-    /// An RRset of type NS.
-    pub(crate) servers: bool,
-    /// One of type A or AAAA.
-    pub(crate) addresses: bool,
-}
-
-/// Whether the key's name owns what referrals are made of, by the sets of a zone.
-pub(crate) fn delegation_at(sets: &BTreeMap<RrKey, Rc<RecordSet>>, first: &RrKey) -> Delegating
+/// Whether the key's name owns NS records, by the sets of a zone.
+pub(crate) fn has_servers_at(sets: &BTreeMap<RrKey, Rc<RecordSet>>, first: &RrKey) -> bool
     requires { first.now.record_type ≡ 0 }
-    ensures servers { result.servers ≡ false → rrset (sets_of sets.now) first.now.name type_ns ≡ None }
-    ensures four { result.addresses ≡ false → rrset (sets_of sets.now) first.now.name type_a ≡ None }
-    ensures six { result.addresses ≡ false → rrset (sets_of sets.now) first.now.name type_aaaa ≡ None }
+    ensures { result ≡ false → rrset (sets_of sets.now) first.now.name type_ns ≡ None }
 {
-    let addresses = addresses_at(sets, first);
-    Delegating {
-        servers: node_at(sets, first, RecordType::NS).servers.is_some(),
-        addresses: addresses.four.is_some() || addresses.six.is_some(),
-    }
+    node_at(sets, first, RecordType::NS).servers.is_some()
 }
 
-/// Whether the key's name, which is in the zone, owns what referrals are made of, by the zone's index.
-pub(crate) fn delegation_in(index: &Index, first: &RrKey) -> Delegating
+/// Whether the key's name, which is in the zone, owns NS records, by the zone's index.
+pub(crate) fn has_servers_in(index: &Index, first: &RrKey) -> bool
     requires least { first.now.record_type ≡ 0 }
     requires within { Encloses index.now.apex.labels first.now.name.labels }
-    ensures servers { result.servers ≡ false → rrset (shared_sets index.now.entries) first.now.name type_ns ≡ None }
-    ensures four { result.addresses ≡ false → rrset (shared_sets index.now.entries) first.now.name type_a ≡ None }
-    ensures six { result.addresses ≡ false → rrset (shared_sets index.now.entries) first.now.name type_aaaa ≡ None }
+    ensures { result ≡ false → rrset (shared_sets index.now.entries) first.now.name type_ns ≡ None }
 {
-    let four = node_in(index, first, RecordType::A);
-    let six = node_in(index, first, RecordType::AAAA);
-    Delegating {
-        servers: four.servers.is_some(),
-        addresses: four.wanted.is_some() || six.wanted.is_some(),
-    }
+    node_in(index, first, RecordType::NS).servers.is_some()
 }
 
 /// The addresses that a name owns.
@@ -443,7 +420,8 @@ fn cut_above_in<'z>(index: &'z Index, origin: &LowerName, first: &RrKey) -> Opti
     requires index { index.now.apex ≡ origin.now }
     ensures cut { CutAbove (record { origin = origin.now; sets = shared_sets index.now.entries }) first.now.name
         (servers_at result) }
-    ensures glue { IfSome result (HasGlue (record { origin = origin.now; sets = shared_sets index.now.entries })) }
+    ensures glue { (sets : Sets) → IsIndexOf origin.now sets index.now →
+        IfSome result (HasGlue (record { origin = origin.now; sets = sets })) }
 {
     if parent_len(&first.name) <= origin.as_name().as_wire().len() {
         return None;
@@ -487,14 +465,7 @@ pub(crate) fn cut_above<'z>(
         IfSome found (HasGlue (record { origin = origin.now; sets = sets_of sets.now }))) }
 {
     match index {
-        Some(index) if index.has_servers() => {
-            let cut = cut_above_in(index, origin, first);
-            if index.has_addresses() {
-                Ok(cut)
-            } else {
-                Ok(unknown_glue(servers_at(cut)))
-            }
-        }
+        Some(index) if index.has_servers() => Ok(cut_above_in(index, origin, first)),
         _ => {
             let servers = climb_to_cut(alloc, sets, origin, &first.name, has)?;
             Ok(unknown_glue(servers))
@@ -824,16 +795,6 @@ fn is_bare(name: &LowerName, behind: Option<&RrKey>, has: Features) -> bool
 
 /// How many of the sets before a name are looked at for a wildcard's, of which most own no more.
 const MOST_WILD: usize = 4;
-
-/// Whether there is no mark at a place.
-fn is_clear(marks: &[bool], place: usize) -> bool
-    ensures { IsTrue result → slice_get marks.now place ≡ Some false }
-{
-    match marks.get(place) {
-        Some(mark) => !*mark,
-        None => false,
-    }
-}
 
 /// The records of a type of the wildcard right below the name above this one, if they are among the last of these sets,
 /// and no update may have changed them.

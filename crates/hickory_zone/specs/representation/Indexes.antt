@@ -9,7 +9,7 @@ use Rattle.wire_names.specs.rr.domain.DomainName.{DomainName}
 use Rattle.wire_names.specs.rr.domain.NameOrder.{Encloses, lower_labels, name_eq}
 use Rattle.wire_names.specs.representation.OrderKey.{order_key, order_word}
 use Rattle.wire_names.specs.serialize.layout.Bytes.{AreBytes}
-use Rattle.wire_messages.specs.Numbers.{type_a, type_aaaa, type_ns, type_soa}
+use Rattle.wire_messages.specs.Numbers.{type_ns, type_soa}
 use Rattle.wire_messages.specs.rr.RrKeys.{key_cmp}
 use Rattle.wire_messages.specs.declared.rr.rr_key.RrKey.{RrKey}
 use Rattle.hickory_base.specs.zone_store.ZoneRecords.{is_at}
@@ -19,14 +19,12 @@ use Rattle.hickory_zone.specs.representation.KeysBeside.{Entry}
 use Rattle.hickory_zone.specs.Zones.{Records, Sets, rrset}
 
 -- Sets as a zone had them, and the name that all their owners are at or below. A mark is at the place of a name that
--- may have changed since, and at its sets. If no NS records have changed, the zone has these cuts, and if no addresses
--- have, these addresses.
+-- may have changed since, and at its sets. If no NS records have changed, the zone has these cuts.
 pub record IndexedSets : Type 0 where
   pub apex : DomainName
   pub entries : List Entry
   pub marks : List Bool
   pub has_servers : Bool
-  pub has_addresses : Bool
 
 -- The place stands behind the keys that are before this one.
 pub record IsPlaceOf (first : RrKey) (entries : List Entry) (place : ℕ) : Type 0 where
@@ -59,8 +57,7 @@ pub record IsIndexBut (records : Records) (origin : DomainName) (sets : Sets) (i
   pub held : (place : ℕ) (e : Entry) → IsClearAt index.entries index.marks place e → list_any (is_at e.0.name) records ≡ false → rrset sets e.0.name e.0.record_type ≡ Some e.1.value
   pub unmarked : (name : DomainName) (t : ℕ) → list_any (is_at name) records ≡ false → IsUnmarked index (record { name = name; record_type = 0 }) → HasStill sets index name t
   pub servers : (name : DomainName) → list_any (is_at name) records ≡ false → index.has_servers ≡ true → HasStill sets index name type_ns
-  pub four : (name : DomainName) → list_any (is_at name) records ≡ false → index.has_addresses ≡ true → HasStill sets index name type_a
-  pub six : (name : DomainName) → list_any (is_at name) records ≡ false → index.has_addresses ≡ true → HasStill sets index name type_aaaa
+  pub outside : (name : DomainName) (t : ℕ) → list_any (is_at name) records ≡ false → ¬ (Encloses index.apex.labels name.labels) → HasStill sets index name t
 
 abbrev pub IsIndexOf : DomainName → Sets → IndexedSets → Type 0
 IsIndexOf origin sets index = IsIndexBut [] origin sets index

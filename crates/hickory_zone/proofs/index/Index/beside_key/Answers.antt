@@ -1,7 +1,5 @@
-use Rattle.std.proofs.Common.{◌≡◌, ◌∙◌, List, take, false, length, Some, true, ap, subst, arith}
+use Rattle.std.proofs.Common.{◌≡◌, List, take, false, length, Some, ap, subst, arith}
 use Rattle.std.specs.Prelude.{slice_get}
-use Rattle.std.specs.Borrow.{Bor}
-use Rattle.std.specs.List.{Contains}
 use Rattle.hickory_zone.proofs.lemmas.zones.Kept.{clear_at, taken}
 use Rattle.hickory_zone.specs.representation.Indexes.{IndexedSets, IsClearAt, IsPlaceOf, IsUnmarked}
 use Rattle.hickory_zone.specs.representation.KeysBeside.{Entry}
@@ -27,5 +25,5 @@ returns-clause-unmarked c = λ clear.
       place = place;
       is = subst (λ (es : List Entry). IsPlaceOf c.args.first.now es place) is c.place_of-place.ensures.place;
       within = omega (arith, c.place_of-place.ensures.within, ap length is);
-      unmarked = subst (λ ms. slice_get ms place ≡ Some false) marks_are (clear_at c.as_slice-marks.result.now place (omega (arith, c.self.invariant.3, ap length marks_are, ap length is, c.place_of-place.ensures.within)) clear);
+      unmarked = subst (λ ms. slice_get ms place ≡ Some false) marks_are (clear_at c.as_slice-marks.result.now place (omega (arith, c.self.invariant.4, ap length marks_are, ap length is, c.place_of-place.ensures.within)) clear);
     })
