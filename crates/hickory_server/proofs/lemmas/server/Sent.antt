@@ -1,19 +1,9 @@
 -- What is sent of replies.
-use Rattle.std.proofs.Common.{◌≤◌, ◌≢◌, ℕ, List, [], ◌∷◌, length, refl, arith}
+use Rattle.std.proofs.Common.{◌≤◌, ℕ, List, [], ◌∷◌, length, refl, arith}
 use Rattle.std.specs.List.{All, AllZip}
-use Rattle.wire_messages.specs.declared.protocol.Protocol.{Protocol}
-use Rattle.wire_messages.specs.declared.protocol.Protocol.TheVariants.{H3, Https, Quic, Tcp, Tls, Udp}
 use Rattle.std.proofs.lemmas.List.Elements.{All-tail}
 use Rattle.hickory_base.specs.declared.requests.message_request.MessageRequest.{MessageRequest}
-use Rattle.hickory_server.specs.server.ServedBy.{AreSentOver, IsBounded}
-
-pub sent_framed : (protocol : Protocol) (limit : ℕ) (request : MessageRequest) (replies : List (List ℕ)) → protocol ≢ Udp → AreSentOver protocol limit request replies replies
-sent_framed Udp limit request replies stream = absurd (stream refl)
-sent_framed Tcp limit request replies stream = refl
-sent_framed Tls limit request replies stream = refl
-sent_framed Https limit request replies stream = refl
-sent_framed Quic limit request replies stream = refl
-sent_framed H3 limit request replies stream = refl
+use Rattle.hickory_server.specs.server.ServedBy.{IsBounded}
 
 -- Replies that are all within the limit are sent as they are.
 pub sent_within : (limit : ℕ) (request : MessageRequest) (replies : List (List ℕ)) → All (λ (bytes : List ℕ). length bytes ≤ limit) replies → AllZip (IsBounded limit request) replies replies

@@ -1,4 +1,4 @@
-use Rattle.std.proofs.Common.{◌≡◌, Result, Ok, Err, IfOk, rules}
+use Rattle.std.proofs.Common.{◌≡◌, rules}
 use Rattle.hickory_base.proofs.lemmas.ResultMaps.{if_ok_map}
 use Rattle.hickory_server.specs.server.Fitted.{read, unread}
 use Rattle.hickory_server.proofs.server.datagrams.cut.Goals.{in-Ok, in-Err-Memory, in-Err}
@@ -16,5 +16,5 @@ returns-clause-cut c =
       | in-Err w ↦
           let fault = rw w.in-Err.is at it.fault in
           rw w.shorter-is
-          (if_ok_map w.truncated-shorter.result _ _ w.truncated-shorter.ensures.reply (λ bytes made. unread (rw same at fault (search rules)) (rw (c.message-message.ensures, w.response_from_request-metadata.ensures) at made)))
+          (if_ok_map w.truncated-shorter.result _ _ w.truncated-shorter.ensures.reply (λ bytes made. unread (rw same at fault (search rules)) (rw (w.response_from_request-metadata.ensures, c.message-message.ensures) at made)))
     ]
