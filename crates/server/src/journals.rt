@@ -107,16 +107,12 @@ impl Service {
         }
         let first = HostFile::new(alloc, 0, Vec::from_slice(alloc, first)?);
         let second = HostFile::new(alloc, 1, Vec::from_slice(alloc, second)?);
-        let place = self.journals.len();
-        self.journals.push(apex)?;
+        // So that the journal, once it is open, gets its number.
+        self.journals.reserve(1)?;
         let zones = &mut self.answering.server.server.catalog;
-        match open_journal(alloc, zones, &self.journals[place], first, second) {
-            Ok(opened) => Ok(opened),
-            Err(fault) => {
-                self.journals.truncate(place);
-                Err(fault.into())
-            }
-        }
+        let opened = open_journal(alloc, zones, &apex, first, second)?;
+        self.journals.push(apex)?;
+        Ok(opened)
     }
 
     /// Lets the zones with journals hold updates from now on, until [`Service::end_batch`]. It takes no memory.
