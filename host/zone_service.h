@@ -148,7 +148,9 @@ size_t zone_service_take(zone_service *service, uint8_t *out, size_t room, size_
  *     updates: takes the bytes of both files. Journals have the numbers 0, 1, .. in the order of these calls that answered
  *     DONE. serials are those of the zone by its file and by its journal, which counts from then on, and the zone file
  *     does not; a journal without an entry gets the zone as it is. *takes_updates is false if the zone takes none. DONE,
- *     and operations are noted; or FAULT or MEMORY with a text, as settings have it, and the files are as they were.
+ *     and operations are noted; or FAULT or MEMORY with a text, as settings have it, and the files and the zone are as
+ *     they were. If only the zone could not be written to the journal, the zone is as the journal says, and takes no
+ *     updates.
  * zone_service_begin_batch: from now on updates are held: they are made in memory and answered, and noted later.
  * zone_service_end_batch: notes the updates that are held, those of a zone with two syncs. DONE; or MEMORY, and the
  *     process must end before any reply of the batch leaves.
