@@ -81,7 +81,8 @@ fn load(
 fn allow_only(alloc: Global, access: &mut AccessControl, text: &[u8]) -> Result<(), SettingFault>
     ensures { OnOk result (AllowsText text.now access.old access.new) }
 {
-    let allowed = parts(alloc, &[network(text)?])?;
+    let network = network(text)?;
+    let allowed = parts(alloc, &[network])?;
     let all = with_all(alloc, &[])?;
     access.insert_deny(all.as_slice())?;
     Ok(access.insert_allow(allowed.as_slice())?)
@@ -100,8 +101,9 @@ fn empty_server(alloc: Global) -> Result<SignedServer<LeftToServer, Handler>, Al
     ensures limit { IfOk result (λ made. made.server.rules.max_udp ≡ 1232) }
 {
     let catalog = Catalog::new(alloc, LeftToServer);
+    let all = with_all(alloc, &[])?;
     let mut rules = Rules::new(alloc);
-    rules.transfers = networks::access(alloc, &with_all(alloc, &[])?, &[])?;
+    rules.transfers = networks::access(alloc, all.as_slice(), &[])?;
     let server = Server::new(alloc, rules, catalog)?;
     let signed = SignedServer::new(alloc, server, Keys::new(alloc))?;
     Ok(signed)

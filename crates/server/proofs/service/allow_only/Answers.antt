@@ -16,9 +16,12 @@ inserts_same old first given new same inserts network = (λ held. before ((inser
   after (inr is_given) = inr is_given
 
 pub returns : goal.returns
-returns c = record {
-  network = c.in_ok-network.network;
-  spelled = c.in_ok-network.ensures;
-  allowed = ?;
-  denied = ?;
-}
+returns c =
+    let denied = c.insert_deny.new.self.deny in
+    let allowed = c.insert_deny.new.self.allow in
+    record {
+      network = c.in_ok-network.network;
+      spelled = c.in_ok-network.ensures;
+      allowed = rw (c.as_slice-2.ensures.value, c.in_ok-allowed.ensures) at (inserts_same _ allowed _ _ c.in_ok-insert_deny.ensures.allow_stays c.in_ok-insert_allow.ensures.ok);
+      denied = same_inserts _ _ denied _ (rw (c.as_slice.ensures.value, c.in_ok-all.ensures) at c.in_ok-insert_deny.ensures.ok) c.in_ok-insert_allow.ensures.deny_stays;
+    }
