@@ -70,8 +70,8 @@ def read(stream):
     return stream.read(int.from_bytes(length, "big")) if len(length) == 2 else None
 
 
-def over_tcp(message, source="127.0.0.1"):
-    with tcp(source=source) as s:
+def over_tcp(message, source="127.0.0.1", port=PORT):
+    with tcp(port, source) as s:
         s.sendall(frame(message))
         return read(s.makefile("rb"))
 
@@ -208,6 +208,8 @@ def try_rules():
     want("a transfer to an address that may have none is refused", code(reply) == 5 and answers(reply) == 0)
     reply = udp(query("example.com", 252), source="127.0.0.8")
     want("over UDP too", code(reply) == 5 and answers(reply) == 0 and not is_truncated(reply))
+    reply = over_tcp(query("example.com", 252), port=PORT + 1)
+    want("without an option that allows it nobody has a transfer", code(reply) == 5 and answers(reply) == 0)
     want("that address may ask", answers(udp(query("www.example.com"), source="127.0.0.8")) == 1)
     for dns_class, name in ((3, "CH"), (4, "HS"), (254, "NONE"), (7, "no class")):
         reply = udp(query("www.example.com", dns_class=dns_class))
@@ -427,7 +429,7 @@ def try_same(zone):
     messages += [query("www.example.com") + b"\0", query("www.example.com")[:-3], b"\x12\x34" + bytes(10), query("example.com", 41)]
 
     def serve(word, data):
-        return subprocess.run([ZONE_SERVE, "--zone", f"example.com={zone}", word], input=data, stdout=subprocess.PIPE, stderr=subprocess.DEVNULL).stdout
+        return subprocess.run([ZONE_SERVE, "--zone", f"example.com={zone}", "--allow-transfer", "127.0.0.1", word], input=data, stdout=subprocess.PIPE, stderr=subprocess.DEVNULL).stdout
 
     want(f"{len(messages)} datagrams are answered as by zone_serve", all((udp(m, 0.3) or b"") == serve("udp", m) for m in messages))
     answered = [m for m in messages if udp(m, 0.3) is not None]
@@ -554,7 +556,7 @@ class Kept:
         open(self.zone, "w").write(SOA_AND_NS + WWW % 1)
         open(self.keys, "w").write(KEYS)
         self.words = ["--zone", f"example.com={self.zone}", "--keys", self.keys, "--allow-update", "example.com=one.example subdomain dyn.example.com A"]
-        self.words += ["--journal", f"example.com={self.journal}"]
+        self.words += ["--journal", f"example.com={self.journal}", "--allow-transfer", "127.0.0.1"]
         self.host = None
 
     def start(self, waits=True):
@@ -708,7 +710,7 @@ def try_journal_clients(folder, port):
     large = "".join(f'large IN TXT "{i:03}{"x" * 250}"\n' for i in range(240))
     open(kept.zone, "w").write(SOA_AND_NS + WWW % 1 + records + large)
     path = os.path.join(kept.folder, "statistics")
-    kept.words += ["--deny", "127.0.0.9", "--deny-transfer", "127.0.0.8", "--max-udp", "700", "--nsid", "here", "--statistics", path]
+    kept.words += ["--deny", "127.0.0.9", "--allow-transfer", "127.0.0.0/8", "--deny-transfer", "127.0.0.8", "--max-udp", "700", "--nsid", "here", "--statistics", path]
     want("a large zone with a journal is ready", kept.start())
     with tcp(port) as s:
         f = s.makefile("rb")
@@ -1249,7 +1251,7 @@ def ask_on(s, stop, found):
 
 def try_deadline(zone, port):
     """A client that always asks, one that reads slowly, and one that never reads: none keeps an old worker for long, at a reload and at the end."""
-    host = start(["--zone", f"example.com={zone}", "--tcp-idle", "600"], port)
+    host = start(["--zone", f"example.com={zone}", "--tcp-idle", "600", "--allow-transfer", "127.0.0.1"], port)
     want("a server with patience is ready", wait_for(port))
     for number, what in ((signal.SIGHUP, "a reload"), (signal.SIGTERM, "the end")):
         stop, found, old = threading.Event(), [], children(host.pid)
@@ -1517,7 +1519,7 @@ def try_one_server(zone, port):
 
 def try_slow_reader(zone, port):
     """A client that goes on reading has its transfers whole, however long the system waits until it takes more from zoned."""
-    host = start(["--zone", f"example.com={zone}", "--tcp-idle", "1"], port)
+    host = start(["--zone", f"example.com={zone}", "--tcp-idle", "1", "--allow-transfer", "127.0.0.1"], port)
     want("a server that is not patient is ready", wait_for(port))
     with socket.socket() as s:
         s.setsockopt(socket.SOL_SOCKET, socket.SO_RCVBUF, 32768)
@@ -1692,7 +1694,7 @@ def main():
     notified = socket.socket(socket.AF_UNIX, socket.SOCK_DGRAM)
     notified.bind(os.path.join(folder, "notify"))
     notified.settimeout(60)
-    words = ["--zone", f"example.com={zone}", "--tcp-idle", "2", "--tcp-client", "20", "--deny", "127.0.0.9", "--deny-transfer", "127.0.0.8"]
+    words = ["--zone", f"example.com={zone}", "--tcp-idle", "2", "--tcp-client", "20", "--deny", "127.0.0.9", "--allow-transfer", "127.0.0.0/8", "--deny-transfer", "127.0.0.8"]
     path = os.path.join(folder, "statistics")
     host = start([*words, "--statistics", path], PORT, env={**os.environ, "NOTIFY_SOCKET": os.path.join(folder, "notify")})
     other = start(["--zone", f"example.com={zone}", "--max-udp", "600"], PORT + 1)

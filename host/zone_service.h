@@ -78,10 +78,12 @@ void zone_service_free(zone_service service);
  *     takes updates before. FAULT if a rule is of no zone. A question for the DS records of a zone's apex is answered by
  *     the zone above it, if that is served too (RFC 4035 section 3.1.4.1).
  * zone_service_set_allowed, .._denied: a network, as 192.0.2.0/24, whose addresses may use the server, or may not; one
- *     more by each call.
- * zone_service_set_transfer_allowed, .._denied: the same for transfers (AXFR, IXFR) by those who may use the server.
+ *     more by each call. Everybody may if none is allowed, else only addresses of allowed networks. The longest network
+ *     that has an address decides.
+ * zone_service_set_transfer_allowed, .._denied: the same for transfers (AXFR, IXFR) by those who may use the server, of
+ *     whom nobody may have one if no network is allowed.
  * zone_service_allow_transfer_key: the name of a key. Requests with a good signature by it have transfers from every
- *     address that may use the server, and all others only from allowed networks.
+ *     address that may use the server.
  * zone_service_set_max_udp: how many bytes a reply over UDP has at most, from 512 to 65,535; 1,232 if it is not called.
  * zone_service_set_rate_limit: how many replies to datagrams a network of clients (24 bits of IPv4, 56 of IPv6) gets in a
  *     second, and of how many above that one is sent without records and with TC, while the others are dropped (0: all
