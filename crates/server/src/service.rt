@@ -4,10 +4,12 @@ ghost use Rattle.std.specs.Prelude.{◌≡◌, ◌≤◌, ◌↔◌, ◌++◌, �
 ghost use Rattle.server_limits.specs.Access.{SameNetworks};
 ghost use Rattle.served_keys.specs.ServedKeys.{AreKeysOfFile, IsKeyNamed, all_networks};
 ghost use Rattle.served_zones.specs.Grants.{IsGrantOf};
-ghost use Rattle.served_zones.specs.ServedZones.{IsLoadedAs, IsZoneOfFile};
+ghost use Rattle.hickory_catalog.specs.zones.Zones.{ChangesAt};
+ghost use Rattle.served_zones.specs.ServedZones.{IsApexText, IsLoadedAs, IsZoneOfFile};
 ghost use Rattle.served_zones.specs.declared.grants.Grant.{Grant as Granted};
 ghost use Rattle.server.specs.Networks.{AllowsText, HasNoNetwork, InsertsText};
 ghost use Rattle.wire_names.specs.rr.domain.DomainName.{DomainName};
+ghost use Rattle.wire_names.specs.rr.domain.NameOrder.{lower_name};
 
 use crate::answering::Answering;
 use crate::settings::{SettingFault, blocklist, key_name, network, zone_name, zone_rule};
@@ -71,6 +73,25 @@ fn load(
     let zone = zone_of_file(alloc, &apex, bytes)?;
     let chain = chain(alloc, Either::Left(zone), list)?;
     if put_chain(alloc, catalog, &apex, chain)? {
+        Ok(apex)
+    } else {
+        Err(SettingFault::ZoneTwice)
+    }
+}
+
+/// Puts a zone of this name without handlers into the catalog, which answers SERVFAIL for it. Returns the name of its
+/// apex. After `ZoneTwice` the zone that was there is gone.
+fn failed(
+    alloc: Global,
+    catalog: &mut Zones<HostFile>,
+    name: &[u8],
+) -> Result<Name, SettingFault>
+    ensures failed { IfOk result (λ apex. IsApexText name.now apex ×
+        ChangesAt catalog.old.zones (lower_name apex) None (Some []) catalog.new.zones) }
+    ensures others { catalog.new ≡ record catalog.old { zones = catalog.new.zones } }
+{
+    let apex = zone_name(alloc, name)?;
+    if put_chain(alloc, catalog, &apex, Vec::new(alloc))? {
         Ok(apex)
     } else {
         Err(SettingFault::ZoneTwice)
@@ -152,6 +173,19 @@ impl Service {
     {
         let catalog = &mut self.answering.server.server.catalog;
         let apex = load(alloc, catalog, name, bytes, self.list.as_ref())?;
+        Ok(self.apexes.push(apex)?)
+    }
+
+    /// Answers SERVFAIL to each query for the zone of this name, of which no file is taken. After `ZoneTwice` the zone
+    /// that was there is gone.
+    pub fn fail_zone(&mut self, alloc: Global, name: &[u8]) -> Result<(), SettingFault>
+        ensures ok { OnOk result ((apex : DomainName) × IsApexText name.now apex ×
+            (self.new.apexes.items ≡ self.old.apexes.items ++ apex ∷ []) ×
+            ChangesAt (zones_of self.old) (lower_name apex) None (Some []) (zones_of self.new)) }
+        ensures others { self.new ≡ with_zones (record self.old { apexes = self.new.apexes }) (zones_of self.new) }
+    {
+        let catalog = &mut self.answering.server.server.catalog;
+        let apex = failed(alloc, catalog, name)?;
         Ok(self.apexes.push(apex)?)
     }
 
