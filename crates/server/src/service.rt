@@ -55,8 +55,26 @@ pub struct Service {
     pub(crate) journals: Vec<LowerName>,
 }
 
+/// Puts the chain of a zone at its apex. After `ZoneTwice` the zone is there, and the one that was there is gone.
+fn put(
+    alloc: Global,
+    catalog: &mut Zones<HostFile>,
+    apex: &Name,
+    chain: Vec<Handler>,
+) -> Result<(), SettingFault>
+    ensures put { OnOk result
+        (ChangesAt catalog.old.zones (lower_name apex.now) None (Some chain.items) catalog.new.zones) }
+    ensures others { catalog.new ≡ record catalog.old { zones = catalog.new.zones } }
+{
+    if put_chain(alloc, catalog, apex, chain)? {
+        Ok(())
+    } else {
+        Err(SettingFault::ZoneTwice)
+    }
+}
+
 /// Puts the zone of this name from the bytes of its file into the catalog, with the list of blocked names after it, if
-/// there is one. Returns the name of its apex. After `ZoneTwice` the zone is there, and the one that was there is gone.
+/// there is one. Returns the name of its apex.
 fn load(
     alloc: Global,
     catalog: &mut Zones<HostFile>,
@@ -72,30 +90,8 @@ fn load(
     let apex = zone_name(alloc, name)?;
     let zone = zone_of_file(alloc, &apex, bytes)?;
     let chain = chain(alloc, Either::Left(zone), list)?;
-    if put_chain(alloc, catalog, &apex, chain)? {
-        Ok(apex)
-    } else {
-        Err(SettingFault::ZoneTwice)
-    }
-}
-
-/// Puts a zone of this name without handlers into the catalog, which answers SERVFAIL for it. Returns the name of its
-/// apex. After `ZoneTwice` the zone that was there is gone.
-fn failed(
-    alloc: Global,
-    catalog: &mut Zones<HostFile>,
-    name: &[u8],
-) -> Result<Name, SettingFault>
-    ensures failed { IfOk result (λ apex. IsApexText name.now apex ×
-        ChangesAt catalog.old.zones (lower_name apex) None (Some []) catalog.new.zones) }
-    ensures others { catalog.new ≡ record catalog.old { zones = catalog.new.zones } }
-{
-    let apex = zone_name(alloc, name)?;
-    if put_chain(alloc, catalog, &apex, Vec::new(alloc))? {
-        Ok(apex)
-    } else {
-        Err(SettingFault::ZoneTwice)
-    }
+    put(alloc, catalog, &apex, chain)?;
+    Ok(apex)
 }
 
 /// Allows the network that a text spells. Addresses that no network allows are denied.
@@ -185,8 +181,10 @@ impl Service {
         ensures others { self.new ≡ with_zones (record self.old { apexes = self.new.apexes }) (zones_of self.new) }
     {
         let catalog = &mut self.answering.server.server.catalog;
-        let apex = failed(alloc, catalog, name)?;
-        Ok(self.apexes.push(apex)?)
+        let apex = zone_name(alloc, name)?;
+        put(alloc, catalog, &apex, Vec::new(alloc))?;
+        self.apexes.push(apex)?;
+        Ok(())
     }
 
     /// Takes the keys that the bytes of a file have, of which there is one at least. Those that were there are gone.
