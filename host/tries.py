@@ -1482,6 +1482,28 @@ def try_control(folder, port):
     want("it ends", host.wait(5) == 0)
 
 
+def try_bad_zones(folder, port):
+    """Zones whose files are not taken: at a start they get SERVFAIL, and the others are answered; a reload changes nothing until the files are mended."""
+    good, bad, none, path = (os.path.join(folder, it) for it in ("good.zone", "bad.zone", "none.zone", "bad.control"))
+    open(good, "w").write(SOA_AND_NS + WWW % 1)
+    open(bad, "w").write("nonsense")
+    words = ["--zone", f"example.com={good}", "--zone", f"sub.example.com={bad}", "--zone", f"example.net={none}"]
+    host = start([*words, "--control", path], port, stderr=subprocess.PIPE, text=True)
+    want("a server with bad zones starts, and answers the good one", wait_for(port) and udp(query("www.example.com"), port=port)[-1] == 1)
+    want("the bad ones are answered SERVFAIL, also below a good one", [code(udp(query(it), port=port)) for it in ("www.sub.example.com", "example.net")] == [2, 2])
+    want("zones says which they are", control(path, "zones")[1].count("(not taken: SERVFAIL)\n") == 2)
+    open(good, "w").write(SOA_AND_NS + WWW % 2)
+    want("a reload with them fails, and changes nothing", control(path, "reload")[0] == 1 and udp(query("www.example.com"), port=port)[-1] == 1)
+    for it in (bad, none):
+        open(it, "w").write(SOA_AND_NS + WWW % 3)
+    want("once they are mended it is done", control(path, "reload") == (0, "") and udp(query("www.sub.example.com"), port=port)[-1] == 3)
+    want("zones says so", "SERVFAIL" not in control(path, "zones")[1])
+    host.terminate()
+    said = host.communicate(timeout=15)[1]
+    want("they were logged, each with its file", f"sub.example.com={bad}: " in said and f"{none}: cannot be read" in said and host.returncode == 0)
+    want("a zone that is given twice ends the start", told(["--listen", f"127.0.0.1@{port}", *words, "--zone", f"example.com={good}"])[0] == 1)
+
+
 def try_journal_control(folder, port):
     """A reload that cannot open a journal, by zonedctl."""
     kept, path = Kept(folder, port), os.path.join(folder, "kept_control")
@@ -1724,6 +1746,7 @@ def main():
     for it in (try_journal, try_journal_clients, try_one_writer, try_journal_configuration, try_journal_limit, try_journal_at_once, try_journal_full, try_journal_kills, try_crashes, try_journal_reloads, try_frozen, try_journal_control):
         it(folder, PORT + 4)
     try_control(folder, PORT + 2)
+    try_bad_zones(folder, PORT + 2)
     try_activation(zone, PORT + 2)
     try_log(folder, zone, PORT + 2)
     try_pipes(folder, zone, PORT + 2)

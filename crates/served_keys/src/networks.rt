@@ -1,6 +1,6 @@
 //! The networks that rules of access have beside those that an operator denies.
 
-ghost use Rattle.std.specs.Prelude.{◌≡◌, ◌++◌, IfOk, OnOk};
+ghost use Rattle.std.specs.Prelude.{◌≡◌, ◌++◌, ◌∷◌, [], IfOk, OnOk};
 ghost use Rattle.std.specs.List.{flat_map};
 ghost use Rattle.server_limits.specs.Access.{address_of, network_of};
 ghost use Rattle.server_limits.specs.declared.access_control.Family.TheVariants.{Ipv4, Ipv6};
@@ -50,6 +50,15 @@ fn half(address: IpAddr) -> Result<IpNet, AllocError>
     }
 }
 
+/// Adds the halves in which these addresses lie.
+fn put_halves(made: &mut Vec<IpNet>, first: IpAddr, second: IpAddr) -> Result<(), AllocError>
+    ensures { OnOk result (made.new.items ≡ made.old.items
+        ++ network_of (address_of first) 1 ∷ network_of (address_of second) 1 ∷ []) }
+{
+    made.push(half(first)?)?;
+    Ok(made.push(half(second)?)?)
+}
+
 /// Adds a network, or its halves if it has all addresses of its family.
 fn put_parts(made: &mut Vec<IpNet>, network: IpNet) -> Result<(), AllocError>
     ensures { OnOk result (made.new.items ≡ made.old.items ++ parts_of network) }
@@ -57,18 +66,16 @@ fn put_parts(made: &mut Vec<IpNet>, network: IpNet) -> Result<(), AllocError>
     if network.prefix_len() > 0 {
         return Ok(made.push(network)?);
     }
-    let (first, second) = match network.address() {
-        IpAddr::V4(_) => (
-            IpAddr::V4(Ipv4Addr::UNSPECIFIED),
-            IpAddr::V4(Ipv4Addr::new(128, 0, 0, 0)),
-        ),
-        IpAddr::V6(_) => (
-            IpAddr::V6(Ipv6Addr::UNSPECIFIED),
-            IpAddr::V6(Ipv6Addr::new(0x8000, 0, 0, 0, 0, 0, 0, 0)),
-        ),
-    };
-    made.push(half(first)?)?;
-    Ok(made.push(half(second)?)?)
+    match network.address() {
+        IpAddr::V4(_) => {
+            let second = IpAddr::V4(Ipv4Addr::new(128, 0, 0, 0));
+            put_halves(made, IpAddr::V4(Ipv4Addr::UNSPECIFIED), second)
+        }
+        IpAddr::V6(_) => {
+            let second = IpAddr::V6(Ipv6Addr::new(0x8000, 0, 0, 0, 0, 0, 0, 0));
+            put_halves(made, IpAddr::V6(Ipv6Addr::UNSPECIFIED), second)
+        }
+    }
 }
 
 /// Allowed networks as rules have them: the halves of a network of all addresses, since the longer network decides, and

@@ -4,10 +4,12 @@ ghost use Rattle.std.specs.Prelude.{◌≡◌, ◌≤◌, ◌↔◌, ◌++◌, �
 ghost use Rattle.server_limits.specs.Access.{SameNetworks};
 ghost use Rattle.served_keys.specs.ServedKeys.{AreKeysOfFile, IsKeyNamed, all_networks};
 ghost use Rattle.served_zones.specs.Grants.{IsGrantOf};
-ghost use Rattle.served_zones.specs.ServedZones.{IsLoadedAs, IsZoneOfFile};
+ghost use Rattle.hickory_catalog.specs.zones.Zones.{ChangesAt};
+ghost use Rattle.served_zones.specs.ServedZones.{IsApexText, IsLoadedAs, IsZoneOfFile};
 ghost use Rattle.served_zones.specs.declared.grants.Grant.{Grant as Granted};
 ghost use Rattle.server.specs.Networks.{AllowsText, HasNoNetwork, InsertsText};
 ghost use Rattle.wire_names.specs.rr.domain.DomainName.{DomainName};
+ghost use Rattle.wire_names.specs.rr.domain.NameOrder.{lower_name};
 
 use crate::answering::Answering;
 use crate::settings::{SettingFault, blocklist, key_name, network, zone_name, zone_rule};
@@ -53,8 +55,26 @@ pub struct Service {
     pub(crate) journals: Vec<LowerName>,
 }
 
+/// Puts the chain of a zone at its apex. After `ZoneTwice` the zone is there, and the one that was there is gone.
+fn put(
+    alloc: Global,
+    catalog: &mut Zones<HostFile>,
+    apex: &Name,
+    chain: Vec<Handler>,
+) -> Result<(), SettingFault>
+    ensures put { OnOk result
+        (ChangesAt catalog.old.zones (lower_name apex.now) None (Some chain.items) catalog.new.zones) }
+    ensures others { catalog.new ≡ record catalog.old { zones = catalog.new.zones } }
+{
+    if put_chain(alloc, catalog, apex, chain)? {
+        Ok(())
+    } else {
+        Err(SettingFault::ZoneTwice)
+    }
+}
+
 /// Puts the zone of this name from the bytes of its file into the catalog, with the list of blocked names after it, if
-/// there is one. Returns the name of its apex. After `ZoneTwice` the zone is there, and the one that was there is gone.
+/// there is one. Returns the name of its apex.
 fn load(
     alloc: Global,
     catalog: &mut Zones<HostFile>,
@@ -70,11 +90,8 @@ fn load(
     let apex = zone_name(alloc, name)?;
     let zone = zone_of_file(alloc, &apex, bytes)?;
     let chain = chain(alloc, Either::Left(zone), list)?;
-    if put_chain(alloc, catalog, &apex, chain)? {
-        Ok(apex)
-    } else {
-        Err(SettingFault::ZoneTwice)
-    }
+    put(alloc, catalog, &apex, chain)?;
+    Ok(apex)
 }
 
 /// Allows the network that a text spells. Addresses that no network allows are denied.
@@ -153,6 +170,21 @@ impl Service {
         let catalog = &mut self.answering.server.server.catalog;
         let apex = load(alloc, catalog, name, bytes, self.list.as_ref())?;
         Ok(self.apexes.push(apex)?)
+    }
+
+    /// Answers SERVFAIL to each query for the zone of this name, of which no file is taken. After `ZoneTwice` the zone
+    /// that was there is gone.
+    pub fn fail_zone(&mut self, alloc: Global, name: &[u8]) -> Result<(), SettingFault>
+        ensures ok { OnOk result ((apex : DomainName) × IsApexText name.now apex ×
+            (self.new.apexes.items ≡ self.old.apexes.items ++ apex ∷ []) ×
+            ChangesAt (zones_of self.old) (lower_name apex) None (Some []) (zones_of self.new)) }
+        ensures others { self.new ≡ with_zones (record self.old { apexes = self.new.apexes }) (zones_of self.new) }
+    {
+        let catalog = &mut self.answering.server.server.catalog;
+        let apex = zone_name(alloc, name)?;
+        put(alloc, catalog, &apex, Vec::new(alloc))?;
+        self.apexes.push(apex)?;
+        Ok(())
     }
 
     /// Takes the keys that the bytes of a file have, of which there is one at least. Those that were there are gone.

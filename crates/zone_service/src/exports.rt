@@ -1,11 +1,12 @@
 //! What C calls. `host/zone_service.h` says of each what it is given and what it answers.
 
-ghost use Rattle.std.specs.Prelude.{◌≡◌, ◌≢◌, ◌≤◌, ◌⊎◌, ◌↔◌, ◌++◌, ◌∷◌, [], IfOk, IsOk, Some, drop, false, length, min, option_map, take};
+ghost use Rattle.std.specs.Prelude.{◌≡◌, ◌≢◌, ◌≤◌, ◌⊎◌, ◌↔◌, ◌++◌, ◌∷◌, [], IfOk, IsOk, None, Some, drop, false, length, min, option_map, take};
 ghost use Rattle.server_limits.specs.Access.{SameNetworks};
 ghost use Rattle.name_lists.specs.Counts.{Counts};
 ghost use Rattle.served_keys.specs.ServedKeys.{AreKeysOfFile, IsKeyNamed};
 ghost use Rattle.served_zones.specs.Grants.{IsGrantOf};
-ghost use Rattle.served_zones.specs.ServedZones.{IsLoadedAs, IsZoneOfFile};
+ghost use Rattle.hickory_catalog.specs.zones.Zones.{ChangesAt};
+ghost use Rattle.served_zones.specs.ServedZones.{IsApexText, IsLoadedAs, IsZoneOfFile};
 ghost use Rattle.served_zones.specs.declared.grants.Grant.{Grant};
 ghost use Rattle.server_reports.specs.Exposition.{exposition_of};
 ghost use Rattle.server_settings.specs.Settings.{IsConfiguration};
@@ -21,6 +22,7 @@ ghost use Rattle.server.specs.Serving.{Stays, waiting_in};
 ghost use Rattle.server.specs.Settings.{IsUnset, rules_of, with_identifier, with_keys, with_rules, with_transfer_keys, with_zones, zones_of};
 ghost use Rattle.server.specs.Updates.{AreServed};
 ghost use Rattle.wire_names.specs.rr.domain.DomainName.{DomainName};
+ghost use Rattle.wire_names.specs.rr.domain.NameOrder.{lower_name};
 
 use hickory_server::zone_handler::{ReplySigner, ZoneHandler};
 use name_lists::ListReport;
@@ -211,6 +213,25 @@ pub extern "C" fn zone_service_add_zone(
 {
     let service = service.service();
     told(alloc, service.add_zone(alloc, name, text), fault, count)
+}
+
+/// Answers SERVFAIL to each query for the zone of this name, of which no file is taken.
+#[unsafe(no_mangle)]
+pub extern "C" fn zone_service_fail_zone(
+    alloc: Global,
+    service: &mut Handle,
+    name: &[u8],
+    fault: &mut [u8],
+    count: &mut usize,
+) -> u32
+    ensures made { result ≡ 0 → (apex : DomainName) × IsApexText name.now apex ×
+        (service.new.service.apexes.items ≡ service.old.service.apexes.items ++ apex ∷ []) ×
+        ChangesAt (zones_of service.old.service) (lower_name apex) None (Some []) (zones_of service.new.service) }
+    ensures others { service.new.service ≡ with_zones
+        (record service.old.service { apexes = service.new.service.apexes }) (zones_of service.new.service) }
+{
+    let service = service.service();
+    told(alloc, service.fail_zone(alloc, name), fault, count)
 }
 
 /// Takes the keys that a text has: BIND's `key` statements, Knot's `key` section, or lines as `dig -y` takes them.

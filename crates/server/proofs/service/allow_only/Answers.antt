@@ -11,6 +11,7 @@ inserts_same old first given new same inserts network = (λ held. before ((inser
   before : Contains first network ⊎ Contains given network → Contains old network ⊎ Contains given network
   before (inl was) = inl ((same network).0 was)
   before (inr is_given) = inr is_given
+
   after : Contains old network ⊎ Contains given network → Contains first network ⊎ Contains given network
   after (inl was) = inl ((same network).1 was)
   after (inr is_given) = inr is_given
