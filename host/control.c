@@ -7,8 +7,10 @@ int control = -1;
 static void write_zones(int fd) {
     for (int i = 0; i < settings->count; i++) {
         const char *name = settings->given[i].option->name, *text = settings->given[i].text;
-        if (strcmp(name, "--zone") == 0 || strcmp(name, "--journal") == 0)
-            dprintf(fd, "%s %s%s\n", name + 2, text, settings->has_failed[i] ? " (not written: no updates)" : "");
+        bool is_zone = strcmp(name, "--zone") == 0, has_failed = settings->has_failed[i];
+        if (is_zone || strcmp(name, "--journal") == 0)
+            dprintf(fd, "%s %s%s\n", name + 2, text,
+                    !has_failed ? "" : is_zone ? " (not taken: SERVFAIL)" : " (not written: no updates)");
     }
 }
 

@@ -72,7 +72,9 @@ struct settings {
     } *given; /* options with a text, in their order */
     int count, numbers[NUMBERS];
     bool is_check;        /* the files are only to be read */
-    bool *has_failed;     /* for each text: it is a journal that could not be written. All processes share these */
+    bool is_first;        /* they are read for the first time, to be served */
+    bool *has_failed;     /* for each text: a zone whose file is not taken, or a journal that could not be written. All
+                             processes share these */
     zone_service service; /* at NULL if there is none */
 };
 extern struct settings *settings;

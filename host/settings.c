@@ -21,10 +21,10 @@ static const struct option options[] = {
     {"--blocklist", "FILE of names that are blocked, a line each", .set = zone_service_set_blocklist, .is_file = true},
     {"--keys", "FILE of the keys that sign messages (TSIG)", .set = zone_service_set_keys, .is_file = true},
     {"--nsid", "TEXT that identifies this server", .set = zone_service_set_identifier},
-    {"--allow", "NET that may ask", .set = zone_service_set_allowed},
+    {"--allow", "NET that may ask; no other may then", .set = zone_service_set_allowed},
     {"--deny", "NET that may not", .set = zone_service_set_denied},
-    {"--allow-transfer", "NET that may have zones transferred", .set = zone_service_set_transfer_allowed},
-    {"--deny-transfer", "NET that may not", .set = zone_service_set_transfer_denied},
+    {"--allow-transfer", "NET that may have zones transferred; nobody by default", .set = zone_service_set_transfer_allowed},
+    {"--deny-transfer", "NET, part of an allowed one, that may not", .set = zone_service_set_transfer_denied},
     {"--allow-transfer-key", "NAME of a key that may have zones transferred from anywhere",
      .set = zone_service_allow_transfer_key},
     {"--zone", "NAME=FILE: the zone at NAME, from a zone file", .set_pair = zone_service_add_zone, .is_file = true},
@@ -234,6 +234,7 @@ int read_arguments(char **arguments) {
             wrong = read_config(*++a);
         else
             wrong = put_option(*a, 2, a[1]), a++;
+    settings->is_first = running == 0 && !settings->is_check;
     if (running > 0)
         settings->numbers[WORKERS] = running;
     return wrong ? -1 : agree();
@@ -255,6 +256,16 @@ static int set(zone_service *service, const struct option *o, const char *text) 
     return told(value, o->is_file && mark == NULL ? value : what, is);
 }
 
+/* Has queries for a zone whose file is not taken answered SERVFAIL, when zoned starts: 0, or -1. */
+static int fail_zone(const struct given *g) {
+    size_t len = strcspn(g->text, "=");
+    if (!settings->is_first || g->option->set_pair != zone_service_add_zone || g->text[len] == 0)
+        return -1;
+    settings->has_failed[g - settings->given] = true;
+    warnx("%s: queries for the zone get SERVFAIL until a reload", g->text);
+    return told(NULL, g->text, zone_service_fail_zone(&settings->service, (const uint8_t *)g->text, len, FAULT));
+}
+
 int load(void) {
     const int *n = settings->numbers;
     zone_service *service = &settings->service;
@@ -267,7 +278,8 @@ int load(void) {
         told(NULL, "--rate-limit", zone_service_set_rate_limit(service, (uint32_t)n[RATE], (uint32_t)n[SLIP], FAULT));
     for (const struct option *o = options; o->name != NULL; o++)
         for (const struct given *g = settings->given; !wrong && g < settings->given + settings->count; g++)
-            wrong = g->option == o && (o->set != NULL || o->set_pair != NULL) && set(service, o, g->text);
+            wrong = g->option == o && (o->set != NULL || o->set_pair != NULL) && set(service, o, g->text) != 0 &&
+                    fail_zone(g) != 0;
     wrong = wrong ? -1 : told(NULL, "--allow-update", zone_service_serve_zones(service, FAULT));
     malloc_trim(0);
     return wrong;

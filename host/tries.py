@@ -70,8 +70,8 @@ def read(stream):
     return stream.read(int.from_bytes(length, "big")) if len(length) == 2 else None
 
 
-def over_tcp(message, source="127.0.0.1"):
-    with tcp(source=source) as s:
+def over_tcp(message, source="127.0.0.1", port=PORT):
+    with tcp(port, source) as s:
         s.sendall(frame(message))
         return read(s.makefile("rb"))
 
@@ -208,6 +208,8 @@ def try_rules():
     want("a transfer to an address that may have none is refused", code(reply) == 5 and answers(reply) == 0)
     reply = udp(query("example.com", 252), source="127.0.0.8")
     want("over UDP too", code(reply) == 5 and answers(reply) == 0 and not is_truncated(reply))
+    reply = over_tcp(query("example.com", 252), port=PORT + 1)
+    want("without an option that allows it nobody has a transfer", code(reply) == 5 and answers(reply) == 0)
     want("that address may ask", answers(udp(query("www.example.com"), source="127.0.0.8")) == 1)
     for dns_class, name in ((3, "CH"), (4, "HS"), (254, "NONE"), (7, "no class")):
         reply = udp(query("www.example.com", dns_class=dns_class))
@@ -427,7 +429,7 @@ def try_same(zone):
     messages += [query("www.example.com") + b"\0", query("www.example.com")[:-3], b"\x12\x34" + bytes(10), query("example.com", 41)]
 
     def serve(word, data):
-        return subprocess.run([ZONE_SERVE, "--zone", f"example.com={zone}", word], input=data, stdout=subprocess.PIPE, stderr=subprocess.DEVNULL).stdout
+        return subprocess.run([ZONE_SERVE, "--zone", f"example.com={zone}", "--allow-transfer", "127.0.0.1", word], input=data, stdout=subprocess.PIPE, stderr=subprocess.DEVNULL).stdout
 
     want(f"{len(messages)} datagrams are answered as by zone_serve", all((udp(m, 0.3) or b"") == serve("udp", m) for m in messages))
     answered = [m for m in messages if udp(m, 0.3) is not None]
@@ -554,7 +556,7 @@ class Kept:
         open(self.zone, "w").write(SOA_AND_NS + WWW % 1)
         open(self.keys, "w").write(KEYS)
         self.words = ["--zone", f"example.com={self.zone}", "--keys", self.keys, "--allow-update", "example.com=one.example subdomain dyn.example.com A"]
-        self.words += ["--journal", f"example.com={self.journal}"]
+        self.words += ["--journal", f"example.com={self.journal}", "--allow-transfer", "127.0.0.1"]
         self.host = None
 
     def start(self, waits=True):
@@ -708,7 +710,7 @@ def try_journal_clients(folder, port):
     large = "".join(f'large IN TXT "{i:03}{"x" * 250}"\n' for i in range(240))
     open(kept.zone, "w").write(SOA_AND_NS + WWW % 1 + records + large)
     path = os.path.join(kept.folder, "statistics")
-    kept.words += ["--deny", "127.0.0.9", "--deny-transfer", "127.0.0.8", "--max-udp", "700", "--nsid", "here", "--statistics", path]
+    kept.words += ["--deny", "127.0.0.9", "--allow-transfer", "127.0.0.0/8", "--deny-transfer", "127.0.0.8", "--max-udp", "700", "--nsid", "here", "--statistics", path]
     want("a large zone with a journal is ready", kept.start())
     with tcp(port) as s:
         f = s.makefile("rb")
@@ -1249,7 +1251,7 @@ def ask_on(s, stop, found):
 
 def try_deadline(zone, port):
     """A client that always asks, one that reads slowly, and one that never reads: none keeps an old worker for long, at a reload and at the end."""
-    host = start(["--zone", f"example.com={zone}", "--tcp-idle", "600"], port)
+    host = start(["--zone", f"example.com={zone}", "--tcp-idle", "600", "--allow-transfer", "127.0.0.1"], port)
     want("a server with patience is ready", wait_for(port))
     for number, what in ((signal.SIGHUP, "a reload"), (signal.SIGTERM, "the end")):
         stop, found, old = threading.Event(), [], children(host.pid)
@@ -1480,6 +1482,28 @@ def try_control(folder, port):
     want("it ends", host.wait(5) == 0)
 
 
+def try_bad_zones(folder, port):
+    """Zones whose files are not taken: at a start they get SERVFAIL, and the others are answered; a reload changes nothing until the files are mended."""
+    good, bad, none, path = (os.path.join(folder, it) for it in ("good.zone", "bad.zone", "none.zone", "bad.control"))
+    open(good, "w").write(SOA_AND_NS + WWW % 1)
+    open(bad, "w").write("nonsense")
+    words = ["--zone", f"example.com={good}", "--zone", f"sub.example.com={bad}", "--zone", f"example.net={none}"]
+    host = start([*words, "--control", path], port, stderr=subprocess.PIPE, text=True)
+    want("a server with bad zones starts, and answers the good one", wait_for(port) and udp(query("www.example.com"), port=port)[-1] == 1)
+    want("the bad ones are answered SERVFAIL, also below a good one", [code(udp(query(it), port=port)) for it in ("www.sub.example.com", "example.net")] == [2, 2])
+    want("zones says which they are", control(path, "zones")[1].count("(not taken: SERVFAIL)\n") == 2)
+    open(good, "w").write(SOA_AND_NS + WWW % 2)
+    want("a reload with them fails, and changes nothing", control(path, "reload")[0] == 1 and udp(query("www.example.com"), port=port)[-1] == 1)
+    for it in (bad, none):
+        open(it, "w").write(SOA_AND_NS + WWW % 3)
+    want("once they are mended it is done", control(path, "reload") == (0, "") and udp(query("www.sub.example.com"), port=port)[-1] == 3)
+    want("zones says so", "SERVFAIL" not in control(path, "zones")[1])
+    host.terminate()
+    said = host.communicate(timeout=15)[1]
+    want("they were logged, each with its file", f"sub.example.com={bad}: " in said and f"{none}: cannot be read" in said and host.returncode == 0)
+    want("a zone that is given twice ends the start", told(["--listen", f"127.0.0.1@{port}", *words, "--zone", f"example.com={good}"])[0] == 1)
+
+
 def try_journal_control(folder, port):
     """A reload that cannot open a journal, by zonedctl."""
     kept, path = Kept(folder, port), os.path.join(folder, "kept_control")
@@ -1517,7 +1541,7 @@ def try_one_server(zone, port):
 
 def try_slow_reader(zone, port):
     """A client that goes on reading has its transfers whole, however long the system waits until it takes more from zoned."""
-    host = start(["--zone", f"example.com={zone}", "--tcp-idle", "1"], port)
+    host = start(["--zone", f"example.com={zone}", "--tcp-idle", "1", "--allow-transfer", "127.0.0.1"], port)
     want("a server that is not patient is ready", wait_for(port))
     with socket.socket() as s:
         s.setsockopt(socket.SOL_SOCKET, socket.SO_RCVBUF, 32768)
@@ -1692,7 +1716,7 @@ def main():
     notified = socket.socket(socket.AF_UNIX, socket.SOCK_DGRAM)
     notified.bind(os.path.join(folder, "notify"))
     notified.settimeout(60)
-    words = ["--zone", f"example.com={zone}", "--tcp-idle", "2", "--tcp-client", "20", "--deny", "127.0.0.9", "--deny-transfer", "127.0.0.8"]
+    words = ["--zone", f"example.com={zone}", "--tcp-idle", "2", "--tcp-client", "20", "--deny", "127.0.0.9", "--allow-transfer", "127.0.0.0/8", "--deny-transfer", "127.0.0.8"]
     path = os.path.join(folder, "statistics")
     host = start([*words, "--statistics", path], PORT, env={**os.environ, "NOTIFY_SOCKET": os.path.join(folder, "notify")})
     other = start(["--zone", f"example.com={zone}", "--max-udp", "600"], PORT + 1)
@@ -1722,6 +1746,7 @@ def main():
     for it in (try_journal, try_journal_clients, try_one_writer, try_journal_configuration, try_journal_limit, try_journal_at_once, try_journal_full, try_journal_kills, try_crashes, try_journal_reloads, try_frozen, try_journal_control):
         it(folder, PORT + 4)
     try_control(folder, PORT + 2)
+    try_bad_zones(folder, PORT + 2)
     try_activation(zone, PORT + 2)
     try_log(folder, zone, PORT + 2)
     try_pipes(folder, zone, PORT + 2)

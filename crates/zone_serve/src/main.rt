@@ -8,13 +8,13 @@
 //! if input, output or clock fail, 5 if a file is not taken, and 6 if updates at hand are not written.
 #![tactic(auto)]
 
-ghost use Rattle.std.specs.Prelude.{◌≡◌, [], IfOk, MatchOption, OnOk, option_map};
-ghost use Rattle.std.specs.List.{AllZip};
+ghost use Rattle.std.specs.Prelude.{◌≡◌, ◌++◌, [], IfOk, MatchOption, OnOk, option_map};
+ghost use Rattle.std.specs.List.{AllZip, flat_map};
 ghost use Rattle.server_limits.specs.Access.{SameNetworks};
 ghost use Rattle.served_zones.specs.ServedZones.{IsLoadedAs};
-ghost use Rattle.served_keys.specs.ServedKeys.{IsKeyNamed};
+ghost use Rattle.served_keys.specs.ServedKeys.{IsKeyNamed, all_networks, parts_of};
 ghost use Rattle.serve_options.specs.Arguments.{transfer_keys_of};
-ghost use Rattle.zone_serve.specs.Catalogs.{AreKeysOf, AreLoaded, AreZonesOf, IsZoneAt, denied_transfers};
+ghost use Rattle.zone_serve.specs.Catalogs.{AreKeysOf, AreLoaded, AreZonesOf, IsZoneAt, denied_beside};
 
 mod damage;
 mod fault;
@@ -214,13 +214,16 @@ fn server_for<R: Eprint + Alloc<A = Global>, O: FileOpener, D: Disk + Drop>(
     files: &O,
     settings: &Settings<'_>,
 ) -> Result<SignedServer<LeftToServer, Handler<D>>, Fault>
-    ensures denied { IfOk result (λ made. SameNetworks settings.now.denied.items made.server.rules.access.deny) }
-    ensures allowed { IfOk result (λ made. SameNetworks settings.now.allowed.items made.server.rules.access.allow) }
+    ensures denied { IfOk result
+        (λ made. SameNetworks (denied_beside settings.now.allowed.items settings.now.denied.items)
+        made.server.rules.access.deny) }
+    ensures allowed { IfOk result
+        (λ made. SameNetworks (flat_map parts_of settings.now.allowed.items) made.server.rules.access.allow) }
     ensures transfers_denied { IfOk result
-        (λ made. SameNetworks (denied_transfers (transfer_keys_of settings.now) settings.now.transfers_denied.items)
-        made.server.rules.transfers.deny) }
+        (λ made. SameNetworks (settings.now.transfers_denied.items ++ all_networks) made.server.rules.transfers.deny) }
     ensures transfers_allowed { IfOk result
-        (λ made. SameNetworks settings.now.transfers_allowed.items made.server.rules.transfers.allow) }
+        (λ made. SameNetworks (flat_map parts_of settings.now.transfers_allowed.items)
+        made.server.rules.transfers.allow) }
     ensures limit { IfOk result (λ made. MatchOption settings.now.max_udp (made.server.rules.max_udp ≡ 1232)
         (λ limit. made.server.rules.max_udp ≡ limit)) }
     ensures zones { IfOk result
@@ -389,7 +392,7 @@ zone_serve [--zone NAME=FILE].. [OPTION].. udp|tcp|lines
   --blocklist FILE           names that are blocked, a line each
   --allow NET, --deny NET    who may ask
   --allow-transfer NET, --deny-transfer NET
-                             who of those may have a zone transferred
+                             who of those may have a zone transferred, else nobody
   --keys FILE                the keys that sign messages (TSIG)
   --allow-transfer-key NAME  whose good signature has zones transferred from anywhere
   --allow-update ZONE=RULE   who may update what in a zone, by a rule
