@@ -1,6 +1,7 @@
 -- Inserting one of the two lists leaves the other as it is.
 use Rattle.std.proofs.Common.{◌⊎◌, inl, inr, Contains, List}
 use Rattle.server_limits.specs.Access.{Inserts, Network, SameNetworks}
+use Rattle.served_keys.specs.ServedKeys.{all_networks}
 use Rattle.server.proofs.service.allow_only.Goals as goal
 
 same_inserts : (old given new last : List Network) → Inserts old given new → SameNetworks new last → Inserts old given last
@@ -24,5 +25,5 @@ returns c =
       network = c.in_ok-network.network;
       spelled = c.in_ok-network.ensures;
       allowed = rw (c.as_slice-2.ensures.value, c.in_ok-allowed.ensures) at (inserts_same _ allowed _ _ c.in_ok-insert_deny.ensures.allow_stays c.in_ok-insert_allow.ensures.ok);
-      denied = same_inserts _ _ denied _ (rw (c.as_slice.ensures.value, c.in_ok-all.ensures) at c.in_ok-insert_deny.ensures.ok) c.in_ok-insert_allow.ensures.deny_stays;
+      denied = same_inserts _ all_networks denied _ (rw (c.as_slice.ensures.value, c.in_ok-all.ensures) at c.in_ok-insert_deny.ensures.ok) c.in_ok-insert_allow.ensures.deny_stays;
     }
