@@ -43,15 +43,19 @@ front_of message edns count = record {
   signature = None;
 }
 
--- The bytes are an encoding of the reply, with this TC: it is set if a record is left out.
-abbrev pub IsEncodedWith : Bool → ℕ → Reply → List ℕ → Type 0
-IsEncodedWith tc limit reply bytes = (header : Header) × ReplyEncoded limit reply bytes header × (header.metadata.truncation ≡ tc)
+-- By the header of the bytes nothing is left out of them, and they are within the limit.
+abbrev pub Fits : ℕ → Header → List ℕ → Type 0
+Fits limit header bytes = (header.metadata.truncation ≡ false) × (length bytes ≤ limit)
 
--- A record of the reply has no room.
+-- The bytes are the whole reply, within the limit.
+abbrev pub IsWhole : ℕ → Reply → List ℕ → Type 0
+IsWhole limit reply bytes = (header : Header) × ReplyEncoded 65535 reply bytes header × Fits limit header bytes
+
+-- The whole reply has no room within the limit.
 abbrev pub LacksRoom : ℕ → Reply → Type 0
-LacksRoom limit reply = (bytes : List ℕ) × IsEncodedWith true limit reply bytes
+LacksRoom limit reply = (bytes : List ℕ) × (header : Header) × ReplyEncoded 65535 reply bytes header × ¬ (Fits limit header bytes)
 
--- So many of the message's additionals have room without its OPT record, as an encoding counts them.
+-- So many of the message's additionals are in an encoding within the limit that has no OPT record.
 pub record HasRoomFor (limit : ℕ) (message : MessageRequest) (most : ℕ) : Type 0 where
   pub bytes : List ℕ
   pub header : Header
@@ -64,7 +68,7 @@ pub record IsLongestFront (limit : ℕ) (message : MessageRequest) (most : ℕ) 
   pub count : ℕ
   pub at_most : count ≤ most
   pub no_longer : count < most → LacksRoom limit (front_of message message.edns (count + 1))
-  pub whole : IsEncodedWith false limit (front_of message message.edns count) bytes
+  pub whole : IsWhole limit (front_of message message.edns count) bytes
 
 -- What is sent in the place of a message.
 pub data IsCutTo (limit : ℕ) (request message : MessageRequest) (bytes : List ℕ) : Type 0 where

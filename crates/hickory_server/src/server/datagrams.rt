@@ -4,7 +4,7 @@ ghost use Rattle.std.specs.Prelude.{◌≡◌, ◌↔◌, ◌≤◌, ◌⊎◌, 
 ghost use Rattle.std.specs.List.{AllZip};
 ghost use Rattle.std.specs.Option.{option_copied};
 ghost use Rattle.hickory_wire.specs.serialize.writing.ReplyParts.{ReplyEncoded};
-ghost use Rattle.hickory_server.specs.server.Fitted.{HasRoomFor, IsCutTo, IsFitted, IsLongestFront, IsReferral, LacksRoom, front_of, has_name_server};
+ghost use Rattle.hickory_server.specs.server.Fitted.{Fits, HasRoomFor, IsCutTo, IsFitted, IsLongestFront, IsReferral, LacksRoom, front_of, has_name_server};
 ghost use Rattle.hickory_server.specs.server.Written.{IsBare, with_tc};
 ghost use Rattle.hickory_server.specs.server.ServedBy.{AreSent, IsBounded};
 
@@ -78,6 +78,13 @@ fn front(
     encoded_with_header(alloc, &contents, limit)
 }
 
+/// Whether the bytes of a message are whole and within the limit.
+fn fits(header: &Header, bytes: &Octets, limit: u16) -> bool
+    ensures { IsTrue result ↔ Fits limit header.now bytes.now }
+{
+    !header.metadata.truncation && bytes.len() <= usize::from(limit)
+}
+
 /// The bytes of a message with as many of its additionals as have room beside its OPT record, so many at most, or
 /// `None` if there is no room for it without additionals.
 fn longest(
@@ -86,14 +93,13 @@ fn longest(
     most: usize,
     limit: u16,
 ) -> Result<Option<Octets>, AllocError>
-    requires count { most ≤ length reply.now.additionals }
-    requires header { 12 ≤ limit }
+    requires { most ≤ length reply.now.additionals }
     ensures front { IfOk result (λ made. IfSome made (IsLongestFront limit reply.now most)) }
     ensures none { IfOk result (λ made. IsNone made → LacksRoom limit (front_of reply.now reply.now.edns 0)) }
     ensures within { IfOk result (λ made. IfSome made (λ bytes. length bytes ≤ limit)) }
 {
-    let (header, bytes) = front(alloc, reply, reply.edns.as_ref(), most, limit)?;
-    if !header.metadata.truncation {
+    let (header, bytes) = front(alloc, reply, reply.edns.as_ref(), most, u16::MAX)?;
+    if fits(&header, &bytes, limit) {
         return Ok(Some(bytes));
     }
     if most == 0 {
@@ -131,8 +137,8 @@ fn without_additionals(
         return Ok(None);
     }
     // If answers have no room, it is found at once, whatever the number of additionals.
-    let (least, _) = front(alloc, reply, reply.edns.as_ref(), 0, limit)?;
-    if least.metadata.truncation {
+    let (header, least) = front(alloc, reply, reply.edns.as_ref(), 0, u16::MAX)?;
+    if !fits(&header, &least, limit) {
         return Ok(None);
     }
     let most = room_without_edns(alloc, reply, limit)?;
