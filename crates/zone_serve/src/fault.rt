@@ -127,8 +127,8 @@ pub enum Fault {
     /// Memory was refused.
     #[error("no memory")]
     Memory,
-    /// The system gives no time.
-    #[error("the system tells no time")]
+    /// The clock cannot be read.
+    #[error("the clock cannot be read")]
     Clock,
     /// The input cannot be read.
     #[error("the input cannot be read")]
@@ -152,7 +152,7 @@ pub enum Ended {
     Stream(StreamFault),
     /// Memory was refused.
     Memory,
-    /// The system gives no time.
+    /// The clock cannot be read.
     Clock,
     /// The output takes nothing.
     Write,
