@@ -761,7 +761,7 @@ def try_one_writer(folder, port):
     here = ["--listen", f"127.0.0.1@{port}"]
     entry = update("a.dyn.example.com", 1).replace(b"com", b"net")
     os.remove(kept.journal + "-wal")
-    for what, text, says in (("of another zone", b"\1" + len(entry).to_bytes(4, "big") + entry + b"\0", "an entry is no update of this zone"), ("that is a text", b"@ IN SOA ns admin 1 2 3 4 5\n", "it is no journal")):
+    for what, text, says in (("of another zone", b"\1" + len(entry).to_bytes(4, "big") + entry + b"\0", "an entry is no update of this zone"), ("that is a text", b"@ IN SOA ns admin 1 2 3 4 5\n", "not a journal")):
         open(kept.journal, "wb").write(text)
         status_is, said = told([*here, *kept.words])
         want(f"a journal {what} is reported", status_is == 1 and f"zoned: {kept.journal}: {says}\n" in said)

@@ -51,7 +51,7 @@ pub enum JournalFault {
     #[error("no zone of this name takes updates")]
     NoUpdates,
     /// One of its files is not a journal, and is left as it is.
-    #[error("it is no journal")]
+    #[error("not a journal")]
     NotAJournal,
     /// The disk failed when its files were read or recovered.
     #[error("the disk failed")]
@@ -60,7 +60,7 @@ pub enum JournalFault {
     #[error("an entry is no update of this zone")]
     Damaged,
     /// The zone does not read back as it is, so it cannot be kept.
-    #[error("the zone does not read back as it is")]
+    #[error("a snapshot does not read back as the zone")]
     NoSnapshot,
     /// An allocation failed.
     #[error("no memory")]

@@ -324,7 +324,10 @@ fn tell<R: Eprint>(rt: &R, fault: Fault) -> u8 {
 fn has_line(fault: Fault) -> bool {
     match fault {
         Fault::Zone { fault, .. } => {
-            matches!(fault, ZoneFileFault::Zone(ZoneFault::Zone(ZoneError::Text(_))))
+            matches!(
+                fault,
+                ZoneFileFault::Zone(ZoneFault::Zone(ZoneError::Text(_)))
+            )
         }
         Fault::Keys { fault } => matches!(fault, KeyFileFault::Keys(KeysFault::Text(_))),
         _ => false,
