@@ -38,9 +38,9 @@ use Rattle.hickory_catalog.specs.declared.catalog.Catalog.{Catalog}
 use Rattle.hickory_server.proofs.lemmas.server.Above.{one_question}
 use Rattle.hickory_server.proofs.lemmas.server.Refusals.{looked_into, one_encoded, one_is}
 use Rattle.hickory_server.proofs.lemmas.zone_handler.MadeReplies.{made}
-use Rattle.hickory_server.specs.server.Ruling.{IsIncremental, IsOfServedClass, IsQuery, IsRefusedUpdate, IsRuling, IsTransfer, MayTransfer, udp_limit}
+use Rattle.hickory_server.specs.server.Ruling.{IsIncremental, IsOfServedClass, IsQuery, IsRefusedUpdate, IsRuling, IsTransfer, MayTransfer, datagram_limit}
 use Rattle.hickory_server.specs.server.Above.{FindsAbove}
-use Rattle.hickory_server.specs.server.ServedBy.{AreSent, RequestServed, ZonesAnswer}
+use Rattle.hickory_server.specs.server.ServedBy.{AreSent, AreSentOver, RequestServed, ZonesAnswer}
 use Rattle.hickory_server.specs.server.ServedBy as by_rules
 use Rattle.hickory_server.specs.server.ServedLaws as for_laws
 use Rattle.hickory_server.specs.server.Serving.{IsRequestOf}
@@ -99,15 +99,15 @@ not_transferred rules r pass (query, is, class, incremental, may) = (pass.0 quer
 -- ---- the zones
 
 -- one reply is sent as one message
-one_sent : (protocol : Protocol) (limit : ℕ) (reply : List ℕ) (sent : List (List ℕ)) → AreSent protocol limit (reply ∷ []) sent → (bytes : List ℕ) × (sent ≡ bytes ∷ [])
-one_sent protocols.Udp limit reply [] are = absurd are
-one_sent protocols.Udp limit reply (bytes ∷ []) are = (bytes, refl)
-one_sent protocols.Udp limit reply (bytes ∷ other ∷ others) are = absurd are.1
-one_sent protocols.Tcp limit reply sent are = (reply, are)
-one_sent protocols.Tls limit reply sent are = (reply, are)
-one_sent protocols.Https limit reply sent are = (reply, are)
-one_sent protocols.Quic limit reply sent are = (reply, are)
-one_sent protocols.H3 limit reply sent are = (reply, are)
+one_sent : (protocol : Protocol) (limit : ℕ) (request : MessageRequest) (reply : List ℕ) (sent : List (List ℕ)) → AreSentOver protocol limit request (reply ∷ []) sent → (bytes : List ℕ) × (sent ≡ bytes ∷ [])
+one_sent protocols.Udp limit request reply [] are = absurd are
+one_sent protocols.Udp limit request reply (bytes ∷ []) are = (bytes, refl)
+one_sent protocols.Udp limit request reply (bytes ∷ other ∷ others) are = absurd are.1
+one_sent protocols.Tcp limit request reply sent are = (reply, are)
+one_sent protocols.Tls limit request reply sent are = (reply, are)
+one_sent protocols.Https limit request reply sent are = (reply, are)
+one_sent protocols.Quic limit request reply sent are = (reply, are)
+one_sent protocols.H3 limit request reply sent are = (reply, are)
 
 -- a chain of a zone alone, which says this to a question
 abbrev Says : ReceivedRequest → Query → DomainName × List ServedHandler → Contents → Type 0
@@ -183,7 +183,7 @@ module _ (handler : Ghosts ServedHandler)
           (s.0, by_zone (for_laws.above asked) chain says, s.2)
 
       abbrev OneEncoded : List (List ℕ) → Type 0
-      OneEncoded encoded = (contents : Contents) × IsSaidBy catalog.zones r question contents × (bytes : List ℕ) × (encoded ≡ bytes ∷ []) × IsEncodingOf r.protocol (unsigned_reply r.message edns contents) bytes
+      OneEncoded encoded = (contents : Contents) × IsSaidBy catalog.zones r question contents × (bytes : List ℕ) × (encoded ≡ bytes ∷ []) × IsEncodingOf protocols.Tcp (unsigned_reply r.message edns contents) bytes
 
       by_request : (rules : Rules) → IsRuling rules r Pass → (encoded : List (List ℕ)) (after : ZoneChains ServedHandler) → RequestServed rules server r now encoded after → OneEncoded encoded
       by_request rules pass encoded after (by_rules.refused ruling _ _ _) = absurd (not_refused rules r pass ruling)
@@ -191,7 +191,7 @@ module _ (handler : Ghosts ServedHandler)
       by_request rules pass encoded after (by_rules.transferred ruling _ _ _) = absurd (not_transferred rules r pass ruling)
       by_request rules pass encoded after (by_rules.passed {replies = replies} _ zones encodes) =
           let a = from_zones replies after zones in
-          let one = one_encoded r.protocol replies (unsigned_reply r.message edns a.0) encoded a.2 encodes in
+          let one = one_encoded protocols.Tcp replies (unsigned_reply r.message edns a.0) encoded a.2 encodes in
           (a.0, a.1, one.0, one.1, one.2)
 
     pub reply : QueriesAreAnswered handler signature_for
@@ -204,14 +204,14 @@ module _ (handler : Ghosts ServedHandler)
         let a = by_request catalog are r question (read_so same rules message question plain r is) (ne_eqb question.query_type type_axfr (λ axfr. plain.no_transfer (inl axfr))) message.now
         rules (passes same rules message question plain r is) encoded after served in
         let (contents, said_so, bytes, one, encodes) = a in
-        let leaves_so = subst (λ (e : List (List ℕ)). AreSent message.protocol (udp_limit rules) e sent) one leaves in
-        let alone = one_sent message.protocol (udp_limit rules) bytes sent leaves_so in (
+        let leaves_so = subst (λ (e : List (List ℕ)). AreSent rules r e sent) one leaves in
+        let alone = one_sent r.protocol (datagram_limit rules r) r.message bytes sent leaves_so in (
           r, is, contents, said_so,
           record {
             encoded = bytes;
             encodes = encodes;
             bytes = alone.0;
-            sent = subst (λ (b : List (List ℕ)). AreSent message.protocol (udp_limit rules) (bytes ∷ []) b) alone.1 leaves_so;
+            sent = subst (λ (b : List (List ℕ)). AreSent rules r (bytes ∷ []) b) alone.1 leaves_so;
             answer_is = told ∙ ap (λ (b : List (List ℕ)). let says_so : Answer = Replies b in says_so) alone.1;
           },
         )

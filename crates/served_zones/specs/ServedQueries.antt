@@ -6,6 +6,7 @@ use Rattle.wire_names.specs.rr.domain.NameOrder.{lower_name}
 use Rattle.wire_names.specs.declared.error.ProtoError.{ProtoError}
 use Rattle.wire_messages.specs.Numbers.{code_refused, opcode_update}
 use Rattle.wire_messages.specs.declared.op.query.Query.{Query}
+use Rattle.wire_messages.specs.declared.protocol.Protocol.TheVariants.{Tcp}
 use Rattle.hickory_base.specs.requests.RequestReading.{IsFaultOf}
 use Rattle.hickory_base.specs.requests.Requests.{ReceivedRequest}
 use Rattle.hickory_base.specs.responses.EncodingSinks.{IsEncodingOf}
@@ -22,7 +23,7 @@ use Rattle.hickory_catalog.specs.zones.Find.{Finds}
 use Rattle.hickory_catalog.specs.zones.Zones.{ChangesAt, ZoneChains}
 use Rattle.hickory_catalog.specs.declared.catalog.Catalog.{Catalog}
 use Rattle.hickory_server.specs.server.Above.{FindsAbove}
-use Rattle.hickory_server.specs.server.Ruling.{IsOfServedClass, IsQuery, IsResponse, IsTransfer, MayUse, udp_limit}
+use Rattle.hickory_server.specs.server.Ruling.{IsOfServedClass, IsQuery, IsResponse, IsTransfer, MayUse}
 use Rattle.hickory_server.specs.server.ServedBy.{AreSent, ServedBy}
 use Rattle.hickory_server.specs.server.ServedLaws.{IsFor}
 use Rattle.hickory_server.specs.server.Serving.{IsRequestOf, LeavesUnserved}
@@ -77,13 +78,13 @@ pub data IsSaidBy (zones : ZoneChains ServedHandler) (request : ReceivedRequest)
   by_zone : {apex : DomainName} {chain : Chain} {zone : ZoneState TsigVerifier} → IsFor zones request (apex, chain)
       → chain ≡ Left zone ∷ [] → IsSaidByZone zone.updatable.zone request question contents → IsSaidBy zones request question contents
 
--- One message leaves. It encodes a reply that says this, with the question and, if the request has EDNS, with an OPT
--- record; over UDP within the limits of client and server.
-pub record IsSentAlone (rules : Rules) (identifier : Option (List ℕ)) (message : Incoming) (request : ReceivedRequest) (contents : Contents) (answer : Answer) : Type 0 where
+-- One message leaves. It is the encoding of a reply that says this, with the question and, if the request has EDNS, with
+-- an OPT record. Over UDP it is what fits the limits of client and server.
+pub record IsSentAlone (rules : Rules) (identifier : Option (List ℕ)) (request : ReceivedRequest) (contents : Contents) (answer : Answer) : Type 0 where
   pub encoded : List ℕ
-  pub encodes : IsEncodingOf request.protocol (unsigned_reply request.message (reply_edns identifier request.message.edns) contents) encoded
+  pub encodes : IsEncodingOf Tcp (unsigned_reply request.message (reply_edns identifier request.message.edns) contents) encoded
   pub bytes : List ℕ
-  pub sent : AreSent message.protocol (udp_limit rules) (encoded ∷ []) (bytes ∷ [])
+  pub sent : AreSent rules request (encoded ∷ []) (bytes ∷ [])
   pub answer_is : answer ≡ Replies (bytes ∷ [])
 
 -- A server answers such a query by its zones.
@@ -92,7 +93,7 @@ QueriesAreAnswered {S} handler signature_for =
     (rules : Rules) (catalog : Catalog S ServedHandler) (message : Incoming) (question : Query) (answer : Answer) (after : ZoneChains ServedHandler)
     → AreAlone catalog.zones → IsPlainQuery rules message question → ServedBy rules (server_of handler signature_for catalog) message answer after
     → (request : ReceivedRequest) × IsRequestOf message request × (contents : Contents)
-    × IsSaidBy catalog.zones request question contents × IsSentAlone rules catalog.nsid message request contents answer
+    × IsSaidBy catalog.zones request question contents × IsSentAlone rules catalog.nsid request contents answer
 
 -- A message is an update (RFC 2136), and the zone that it names answered it `Ok`. All other zones are as before.
 pub record MakesUpdate (by : Verifies TsigVerifier) (message : Incoming) (old new : ZoneChains ServedHandler) : Type 0 where

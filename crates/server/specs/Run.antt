@@ -140,7 +140,7 @@ RepliesAreOfTheFiles handler signature_for by =
     → Run handler signature_for events service → IsPlainQuery (rules_of service) message question → IsUnsigned service.answering.server.keys message
     → Answers handler signature_for service message (Ok answer) zones
     → (request : ReceivedRequest) × IsRequestOf message request × (contents : Contents) × IsSaidOf by events request question contents
-    × IsSentAlone (rules_of service) service.answering.server.server.catalog.nsid message request contents answer
+    × IsSentAlone (rules_of service) service.answering.server.server.catalog.nsid request contents answer
 
 -- A zone that took no update says what the zone that its file's bytes make replies to the question.
 abbrev pub FilesReply : Verifies TsigVerifier → Type 0
