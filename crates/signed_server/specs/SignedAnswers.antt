@@ -1,21 +1,16 @@
 -- The replies to signed requests (RFC 8945 sections 5.2 and 5.3): which messages are signed, and how one is signed
 -- behind the other.
-use Rattle.std.specs.Prelude.{◌≡◌, ◌≢◌, ◌-◌, ℕ, min, max, List, [], ◌∷◌, ◌++◌, length, Option, Some, None, All, Contains, true}
+use Rattle.std.specs.Prelude.{◌≡◌, ◌≢◌, ◌-◌, ℕ, max, List, [], ◌∷◌, ◌++◌, Option, Some, None, All, Contains}
 use Rattle.std.specs.List.{AllZip}
 use Rattle.wire_messages.specs.Numbers.{code_form_err, code_not_auth, code_serv_fail}
 use Rattle.wire_messages.specs.op.Metadata.{response_to}
-use Rattle.wire_messages.specs.declared.op.header.Header.{Header}
 use Rattle.wire_messages.specs.declared.op.header.Metadata.{Metadata}
 use Rattle.wire_messages.specs.declared.protocol.Protocol.{Protocol}
 use Rattle.wire_messages.specs.declared.protocol.Protocol.TheVariants.{Udp}
-use Rattle.hickory_wire.specs.serialize.writing.ReplyParts.{ReplyEncoded}
-use Rattle.hickory_base.specs.requests.Questions.{payload_limit}
 use Rattle.hickory_base.specs.requests.Requests.{ReceivedRequest}
 use Rattle.hickory_base.specs.responses.Responses.{error_metadata}
-use Rattle.hickory_base.specs.declared.requests.message_request.MessageRequest.{MessageRequest}
-use Rattle.hickory_catalog.specs.replies.ReplyEdns.{reply_edns}
-use Rattle.hickory_server.specs.server.Ruling.{udp_limit}
-use Rattle.hickory_server.specs.server.Written.{bare_message}
+use Rattle.hickory_server.specs.server.Ruling.{datagram_limit}
+use Rattle.hickory_server.specs.server.Written.{IsBare, with_tc}
 use Rattle.hickory_server.specs.declared.server.answer.Answer.{Answer}
 use Rattle.hickory_server.specs.declared.server.answer.Answer.TheVariants.{Replies}
 use Rattle.hickory_server.specs.declared.server.rules.Rules.{Rules}
@@ -35,30 +30,24 @@ pub record JudgedRequest : Type 0 where
 
 -- ---- limits
 
--- How many bytes a reply has at most, its signature with it: over UDP what the client takes (RFC 6891 section 6.2.3)
--- and the server allows; over a stream what a length of 16 bits allows (RFC 1035 section 4.2.2).
+-- How many bytes a reply has at most, its signature with it: over UDP what its client and the server allow; over a
+-- stream what a length of 16 bits allows (RFC 1035 section 4.2.2).
 abbrev pub limit_over : Protocol → ℕ → ℕ
 limit_over Udp datagram = datagram
 limit_over stream datagram = 65535
 
 abbrev pub reply_limit : Rules → ReceivedRequest → ℕ
-reply_limit rules request = limit_over request.protocol (min (payload_limit request.message.edns) (udp_limit rules))
+reply_limit rules request = limit_over request.protocol (datagram_limit rules request)
 
 -- What is left of it for the message, beside its TSIG record (section 5.3); a header, of twelve bytes, in any case.
 abbrev pub message_limit : List Key → Judgement → Rules → ReceivedRequest → ℕ
 message_limit keys judgement rules request = max (reply_limit rules request - room_of keys judgement) 12
 
--- ---- messages of a question alone
-
--- The bytes are a message without records, except for an OPT record, within the limit, for a request: of this header, with the request's questions, and EDNS
--- where it has EDNS.
-abbrev pub IsBare : ℕ → MessageRequest → Metadata → List ℕ → Type 0
-IsBare limit request metadata bytes = (header : Header)
-    × ReplyEncoded limit (bare_message metadata request.queries.bytes (length request.queries.queries) (reply_edns None request.edns)) bytes header
+-- ---- messages of only a question
 
 -- TC, and no error: the whole reply is to be had over TCP (section 5.3)
 abbrev pub truncated : Metadata → Metadata
-truncated request = record (response_to request) { truncation = true }
+truncated request = with_tc (response_to request)
 
 -- NOTAUTH, which is 9, for a wrong key, MAC or time (section 5.2); and FORMERR, which is 1, for a signature without its
 -- form

@@ -25,7 +25,8 @@ use Rattle.hickory_server.specs.declared.server.rules.Rules.{Rules}
 use Rattle.hickory_server.specs.server.ServedBy.{Arrival, BytesServed}
 use Rattle.signed_server.specs.ServedWithKeys.{ServedWithKeys}
 use Rattle.signed_server.specs.SharedReplies.{FitsUncut}
-use Rattle.signed_server.specs.SignedAnswers.{AreSigned, AreToBeSigned, IsBare, signed_behind}
+use Rattle.hickory_server.specs.server.Written.{IsBare}
+use Rattle.signed_server.specs.SignedAnswers.{AreSigned, AreToBeSigned, signed_behind}
 
 -- A message of bytes without a TSIG record, none of whose names leads into its header.
 pub record IsWhole (message : List ℕ) : Type 0 where

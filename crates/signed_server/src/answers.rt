@@ -2,17 +2,17 @@
 
 ghost use Rattle.std.specs.Prelude.{◌≡◌, ◌≢◌, ◌↔◌, ◌∷◌, [], All, IfOk, IsTrue, List, ℕ};
 ghost use Rattle.std.specs.List.{AllZip};
+ghost use Rattle.hickory_server.specs.server.Written.{IsBare};
 ghost use Rattle.tsig.specs.Stripping.{IsStripped};
 ghost use Rattle.signed_server.specs.SharedReplies.{Fits};
-ghost use Rattle.signed_server.specs.SignedAnswers.{AreSentSigned, AreToBeSigned, IsBare, IsRefused, message_limit, refusal_code, reply_limit, truncated};
+ghost use Rattle.signed_server.specs.SignedAnswers.{AreSentSigned, AreToBeSigned, IsRefused, message_limit, refusal_code, reply_limit, truncated};
 
-use crate::bare::bare;
 use crate::chains::signed;
 use crate::parts::{fits, shared_out};
 use hickory_base::message_request::MessageRequest;
 use hickory_base::server::Request;
 use hickory_server::server::Rules;
-use hickory_server::server::writing::error_metadata;
+use hickory_server::server::writing::{bare, error_metadata};
 use hickory_wire::{Items, Metadata, Octets, Protocol, ResponseCode};
 use std::alloc::{AllocError, Global};
 use tsig::{Judgement, Keys, room, stripped};
@@ -22,7 +22,7 @@ fn reply_limit(rules: &Rules, request: &Request) -> u16
     ensures { result ≡ reply_limit rules.now request.now }
 {
     match request.protocol() {
-        Protocol::Udp => request.message().max_payload().min(rules.udp_limit()),
+        Protocol::Udp => rules.datagram_limit(request),
         _ => u16::MAX,
     }
 }

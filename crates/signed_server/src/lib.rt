@@ -3,7 +3,6 @@
 #![tactic(auto)]
 
 mod answers;
-mod bare;
 mod chains;
 mod laws;
 mod parts;

@@ -75,7 +75,7 @@ impl ZoneFileFault {
             ZoneFileFault::UnknownDirective => "; expected $ORIGIN, $TTL, $INCLUDE or $GENERATE",
             ZoneFileFault::BadRange => "; expected FIRST-LAST or FIRST-LAST/STEP",
             ZoneFileFault::BadNumberForm => "; expected ${OFFSET,WIDTH,BASE}",
-            ZoneFileFault::Text(TextFault::BadDate) => "; expected YYYYMMDDHHmmSS",
+            ZoneFileFault::Text(TextFault::BadDate) => "; expected YYYYMMDDHHmmSS or seconds",
             _ => "",
         }
     }

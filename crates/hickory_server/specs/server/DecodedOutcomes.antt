@@ -17,7 +17,7 @@ use Rattle.hickory_catalog.specs.requests.Requests.{RequestAnswered}
 use Rattle.hickory_catalog.specs.requests.Server.{Server, server_of}
 use Rattle.hickory_catalog.specs.replies.Signing.{Signer}
 use Rattle.hickory_catalog.specs.declared.catalog.Catalog.{Catalog}
-use Rattle.hickory_server.specs.server.Serving.{IsRequestOf, Step}
+use Rattle.hickory_server.specs.server.Serving.{IsRequestOf, StepOver}
 use Rattle.hickory_server.specs.declared.server.serve.Incoming.{Incoming}
 use Rattle.hickory_server.specs.declared.server.serve.Outcome.{Outcome}
 use Rattle.hickory_server.specs.declared.server.serve.Outcome.TheVariants.{Replies}
@@ -44,15 +44,15 @@ OneQuestionHasRoom {S} {H} handler signature_for = (catalog : Catalog S H) (requ
 
 -- The replies to a message are those that its request comes to, and each reads back from its bytes, where no name of
 -- its questions leads into its header or runs on behind the last of them.
-pub record OutcomeReadsBack {H : Type 0} (server : Server H) (message : Incoming) (encoded : List (List ℕ)) (zones : List (DomainName × List H)) : Type 0 where
+pub record OutcomeReadsBack {H : Type 0} (over : Protocol) (server : Server H) (message : Incoming) (encoded : List (List ℕ)) (zones : List (DomainName × List H)) : Type 0 where
   pub request : ReceivedRequest
   pub is_request : IsRequestOf message request
   pub replies : List Reply
   pub answered : RequestAnswered server request message.now replies zones
-  pub read_back : AreRepeatable message.bytes.items request.message.queries.queries → AllZip (IsReadBack message.protocol request.message.queries) replies encoded
+  pub read_back : AreRepeatable message.bytes.items request.message.queries.queries → AllZip (IsReadBack over request.message.queries) replies encoded
 
--- So it is of whatever becomes of a message that has replies.
+-- So it is of whatever becomes of a message that has replies, at the limit of any transport.
 abbrev pub StepsReadBack : {S H : Type 0} → Ghosts H → (S → Signer) → Type 0
-StepsReadBack {S} {H} handler signature_for = (access : AccessSets) (catalog : Catalog S H) (message : Incoming) (outcome : Outcome) (zones : List (DomainName × List H)) (encoded : List (List ℕ))
-    → Step access (server_of handler signature_for catalog) message outcome zones → outcome ≡ Replies encoded
-    → OutcomeReadsBack (server_of handler signature_for catalog) message encoded zones
+StepsReadBack {S} {H} handler signature_for = (over : Protocol) (access : AccessSets) (catalog : Catalog S H) (message : Incoming) (outcome : Outcome) (zones : List (DomainName × List H)) (encoded : List (List ℕ))
+    → StepOver over access (server_of handler signature_for catalog) message outcome zones → outcome ≡ Replies encoded
+    → OutcomeReadsBack over (server_of handler signature_for catalog) message encoded zones

@@ -1,5 +1,5 @@
 -- The rules of a server: what it makes of a message, and of a request, before its zones are asked.
-use Rattle.std.specs.Prelude.{◌≡◌, ◌==◌, ◌≢◌, ◌≤◌, ◌⊎◌, ◌∷◌, [], ℕ, true, None, List, cond, get_or, max}
+use Rattle.std.specs.Prelude.{◌≡◌, ◌==◌, ◌≢◌, ◌≤◌, ◌⊎◌, ◌∷◌, [], ℕ, true, None, List, cond, get_or, max, min}
 use Rattle.std.specs.Net.Socket.{socket_ip}
 use Rattle.std.specs.declared.net.SocketAddr.{SocketAddr}
 use Rattle.wire_messages.specs.Numbers.{class_any, class_in, code_not_auth, code_refused, opcode_query, opcode_update, type_axfr, type_ixfr, type_soa}
@@ -9,7 +9,7 @@ use Rattle.wire_messages.specs.declared.op.header.MessageType.TheVariants as mes
 use Rattle.wire_messages.specs.declared.op.query.Query.{Query}
 use Rattle.wire_messages.specs.declared.protocol.Protocol.TheVariants.{Udp}
 use Rattle.server_limits.specs.Access.{IsAllowed}
-use Rattle.hickory_base.specs.requests.Questions.{edns_version}
+use Rattle.hickory_base.specs.requests.Questions.{edns_version, payload_limit}
 use Rattle.hickory_base.specs.requests.Requests.{ReceivedRequest}
 use Rattle.hickory_base.specs.declared.requests.message_request.MessageRequest.{MessageRequest}
 use Rattle.hickory_catalog.specs.replies.Replies.{bare_contents, error_reply, plain_reply}
@@ -27,6 +27,11 @@ IsResponse bytes = 128 ≤ get_or bytes 2 0
 -- 4.2.1)
 abbrev pub udp_limit : Rules → ℕ
 udp_limit rules = max rules.max_udp 512
+
+-- how many bytes a reply to a request has at most over UDP: what the client takes (RFC 6891 section 6.2.3) and the
+-- server allows
+abbrev pub datagram_limit : Rules → ReceivedRequest → ℕ
+datagram_limit rules request = min (payload_limit request.message.edns) (udp_limit rules)
 
 -- The message is a request of this opcode and of this one question, in the version of EDNS that is known (RFC 1035
 -- section 4.1.1, RFC 6891 section 6.1.3).

@@ -2,7 +2,7 @@
 use Rattle.std.specs.Prelude.{◌≡◌, ◌≤◌, ◌<◌, ◌⊎◌, ◌∷◌, [], ℕ, List, None, Contains, length}
 use Rattle.std.specs.List.{AllByRecursion}
 use Rattle.wire_names.specs.rr.domain.DomainName.{DomainName}
-use Rattle.wire_messages.specs.declared.protocol.Protocol.TheVariants.{Udp}
+use Rattle.wire_messages.specs.declared.protocol.Protocol.TheVariants.{Tcp, Udp}
 use Rattle.hickory_base.specs.requests.Questions.{payload_limit}
 use Rattle.hickory_base.specs.requests.Requests.{ReceivedRequest}
 use Rattle.hickory_base.specs.declared.zone_store.handler.ZoneHandler.{Ghosts}
@@ -15,7 +15,7 @@ use Rattle.hickory_server.specs.server.Above.{FindsAbove, IsAskedAbove}
 use Rattle.hickory_server.specs.server.FormErrors.{IsFormError}
 use Rattle.hickory_server.specs.server.Ruling.{IsResponse, IsRuling, MayUse, udp_limit}
 use Rattle.hickory_server.specs.server.ServedBy.{AreSent, ServedBy}
-use Rattle.hickory_server.specs.server.Serving.{IsRequestOf, Step}
+use Rattle.hickory_server.specs.server.Serving.{IsRequestOf, StepOver}
 use Rattle.hickory_server.specs.declared.server.answer.Answer.{Answer}
 use Rattle.hickory_server.specs.declared.server.answer.Answer.TheVariants.{Denied, Replies}
 use Rattle.hickory_server.specs.declared.server.rules.Rules.{Rules}
@@ -33,16 +33,17 @@ pub record IsLetThrough {V : Type 0} (rules : Rules) (zones : List (DomainName �
   pub not_above : (request : ReceivedRequest) → IsRequestOf message request → FindsAbove zones request.message None
 
 -- What is sent of what becomes of a message without rules.
-abbrev pub IsSent : Incoming → ℕ → Outcome → Answer → Type 0
-IsSent message limit outcomes.Denied answer = answer ≡ Denied
-IsSent message limit outcomes.Unreadable answer = IsFormError message.bytes.items answer
-IsSent message limit (outcomes.Replies replies) answer = (sent : List (List ℕ)) × AreSent message.protocol limit replies sent × (answer ≡ Replies sent)
+abbrev pub IsSent : Rules → Incoming → Outcome → Answer → Type 0
+IsSent rules message outcomes.Denied answer = answer ≡ Denied
+IsSent rules message outcomes.Unreadable answer = IsFormError message.bytes.items answer
+IsSent rules message (outcomes.Replies replies) answer = (request : ReceivedRequest) × (sent : List (List ℕ)) × IsRequestOf message request × AreSent rules request replies sent × (answer ≡ Replies sent)
 
--- Of a message that is let through becomes what becomes of it without rules, and that is sent.
+-- Of a message that is let through becomes what becomes of it without rules, with its replies encoded as over a stream,
+-- and that is sent.
 abbrev pub LetThroughSteps : {S H : Type 0} → Ghosts H → (S → Signer) → Type 0
 LetThroughSteps {S} {H} handler signature_for = (rules : Rules) (catalog : Catalog S H) (message : Incoming) (answer : Answer) (zones : List (DomainName × List H))
     → IsLetThrough rules catalog.zones message → ServedBy rules (server_of handler signature_for catalog) message answer zones
-    → (outcome : Outcome) × Step rules.access (server_of handler signature_for catalog) message outcome zones × IsSent message (udp_limit rules) outcome answer
+    → (outcome : Outcome) × StepOver Tcp rules.access (server_of handler signature_for catalog) message outcome zones × IsSent rules message outcome answer
 
 -- It gets no reply.
 abbrev pub HasNoReply : Answer → Type 0

@@ -6,6 +6,7 @@ use Rattle.wire_names.specs.rr.domain.DomainName.{DomainName}
 use Rattle.wire_reading.specs.serialize.layout.WholeMessage.{MessageAt}
 use Rattle.wire_reading.specs.serialize.reading.MessageReading.{Reads}
 use Rattle.wire_messages.specs.serialize.writing.Reply.{Reply}
+use Rattle.wire_messages.specs.declared.protocol.Protocol.{Protocol}
 use Rattle.wire_names.specs.declared.error.ProtoError.{ProtoError}
 use Rattle.server_limits.specs.Access.{AccessSets, IsAllowed}
 use Rattle.hickory_base.specs.requests.RequestReading.{IsFaultOf, IsQuestionSection, message_of}
@@ -30,18 +31,22 @@ pub record IsRequestOf (message : Incoming) (request : ReceivedRequest) : Type 0
   pub source_is : request.source ≡ message.src
   pub protocol_is : request.protocol ≡ message.protocol
 
--- What becomes of a message, and the zones after it, where these addresses may use the server. Only an update changes a
--- zone.
-pub data Step {H : Type 0} (access : AccessSets) (server : Server H) (message : Incoming) (outcome : Outcome) (zones : List (DomainName × List H)) : Type 0 where
+-- What becomes of a message, and the zones after it, where these addresses may use the server, and replies are encoded
+-- at the limit of this transport. Only an update changes a zone.
+pub data StepOver {H : Type 0} (over : Protocol) (access : AccessSets) (server : Server H) (message : Incoming) (outcome : Outcome) (zones : List (DomainName × List H)) : Type 0 where
   -- Its address may not.
-  denied : ¬ (IsAllowed access.deny access.allow (socket_ip message.src)) → outcome ≡ Denied → zones ≡ server.zones → Step access server message outcome zones
+  denied : ¬ (IsAllowed access.deny access.allow (socket_ip message.src)) → outcome ≡ Denied → zones ≡ server.zones → StepOver over access server message outcome zones
   -- Its bytes begin with no message.
   unreadable : {e : ProtoError} → IsAllowed access.deny access.allow (socket_ip message.src) → IsFaultOf message.bytes.items e
-      → outcome ≡ Unreadable → zones ≡ server.zones → Step access server message outcome zones
-  -- It is a request. Its replies are sent, each encoded at the limit of its transport.
+      → outcome ≡ Unreadable → zones ≡ server.zones → StepOver over access server message outcome zones
+  -- It is a request. Its replies are sent, each encoded at the limit.
   handled : {request : ReceivedRequest} {replies : List Reply} {encoded : List (List ℕ)} → IsAllowed access.deny access.allow (socket_ip message.src) → IsRequestOf message request
-      → RequestAnswered server request message.now replies zones → AllZip (IsEncodingOf message.protocol) replies encoded
-      → outcome ≡ Replies encoded → Step access server message outcome zones
+      → RequestAnswered server request message.now replies zones → AllZip (IsEncodingOf over) replies encoded
+      → outcome ≡ Replies encoded → StepOver over access server message outcome zones
+
+-- The same at the limit of the message's own transport.
+abbrev pub Step : {H : Type 0} → AccessSets → Server H → Incoming → Outcome → List (DomainName × List H) → Type 0
+Step access server message = StepOver message.protocol access server message
 
 -- What becomes of messages, one after the other, each handled over the zones as those before it left them.
 pub data Run {H : Type 0} (access : AccessSets) (server : Server H) : List (DomainName × List H) → List Incoming → List Outcome → List (DomainName × List H) → Type 0 where

@@ -1,9 +1,13 @@
 -- The reply that is written of its parts.
-use Rattle.std.specs.Prelude.{[], ℕ, List, None, Option}
+use Rattle.std.specs.Prelude.{[], ℕ, List, None, Option, length, true}
 use Rattle.std.specs.Option.{option_copied}
 use Rattle.wire_messages.specs.op.EdnsFields.{EdnsFields}
 use Rattle.wire_messages.specs.serialize.writing.Reply.{Reply}
+use Rattle.wire_messages.specs.declared.op.header.Header.{Header}
 use Rattle.wire_messages.specs.declared.op.header.Metadata.{Metadata}
+use Rattle.hickory_wire.specs.serialize.writing.ReplyParts.{ReplyEncoded}
+use Rattle.hickory_base.specs.declared.requests.message_request.MessageRequest.{MessageRequest}
+use Rattle.hickory_catalog.specs.replies.ReplyEdns.{reply_edns}
 use Rattle.hickory_server.specs.declared.server.writing.Contents.{Contents}
 
 -- a message without records, except for its OPT record
@@ -33,3 +37,17 @@ said contents = record {
   additionals = contents.additionals.now;
   signature = None;
 }
+
+-- The bytes are an encoding of the reply within the limit.
+abbrev pub IsEncoding : ℕ → Reply → List ℕ → Type 0
+IsEncoding limit reply bytes = (header : Header) × ReplyEncoded limit reply bytes header
+
+-- The bytes are a message of this header for a request, within the limit: with the request's questions, an OPT record
+-- if the request has one (RFC 6891 section 7), and no other record.
+abbrev pub IsBare : ℕ → MessageRequest → Metadata → List ℕ → Type 0
+IsBare limit request metadata =
+    IsEncoding limit (bare_message metadata request.queries.bytes (length request.queries.queries) (reply_edns None request.edns))
+
+-- the header with TC (RFC 1035 section 4.1.1)
+abbrev pub with_tc : Metadata → Metadata
+with_tc metadata = record metadata { truncation = true }

@@ -18,7 +18,7 @@ use hickory_base::zone_store::ZoneHandler;
 use hickory_catalog::catalog::Catalog;
 use hickory_catalog::laws::replies_taken;
 use hickory_catalog::signer::ReplySigner;
-use hickory_wire::{Items, LowerName, Octets};
+use hickory_wire::{Items, LowerName, Octets, Protocol};
 use std::alloc::{AllocError, Global};
 
 /// The type of the records that a zone above has of a zone below (RFC 4034 section 5).
@@ -70,11 +70,11 @@ fn hand_over_by<S: ReplySigner, H: ZoneHandler>(
     now: u64,
     sink: &mut EncodingSink,
 ) -> Result<(), AllocError>
-    requires { sink.old ≡ record { protocol = request.now.protocol; replies = []; failures = 0 } }
+    requires { sink.old ≡ record { protocol = Protocol.Tcp; replies = []; failures = 0 } }
     ensures { OnOk result ((replies : List Reply) ×
         ChainReplies (server_of H.ZoneHandler S.signature_for catalog.now) chain.now request.now
         (reply_edns catalog.now.nsid request.now.message.edns) now replies ×
-        AllZip (IsEncodingOf request.now.protocol) replies sink.new.replies) }
+        AllZip (IsEncodingOf Protocol.Tcp) replies sink.new.replies) }
 {
     match catalog.lookup_by(chain, alloc, request, now, sink) {
         Ok(_) => {}
@@ -88,7 +88,7 @@ fn hand_over_by<S: ReplySigner, H: ZoneHandler>(
     Ok(())
 }
 
-/// The bytes of the replies of a chain to a request, in their order.
+/// The bytes of the replies of a chain to a request, in their order, each encoded as over a stream.
 fn replies_by<S: ReplySigner, H: ZoneHandler>(
     alloc: Global,
     catalog: &Catalog<S, H>,
@@ -99,9 +99,9 @@ fn replies_by<S: ReplySigner, H: ZoneHandler>(
     ensures { IfOk result (λ encoded. (replies : List Reply) ×
         ChainReplies (server_of H.ZoneHandler S.signature_for catalog.now) chain.now request.now
         (reply_edns catalog.now.nsid request.now.message.edns) now replies ×
-        AllZip (IsEncodingOf request.now.protocol) replies encoded) }
+        AllZip (IsEncodingOf Protocol.Tcp) replies encoded) }
 {
-    let mut sink = EncodingSink::new(alloc, request.protocol());
+    let mut sink = EncodingSink::new(alloc, Protocol::Tcp);
     hand_over_by(alloc, catalog, chain, request, now, &mut sink)?;
     Ok(sink.into_replies())
 }
@@ -120,7 +120,7 @@ pub(crate) fn replies_from_above<S: ReplySigner, H: ZoneHandler>(
         IsAskedAbove catalog.now.zones request.now.message zone ×
         ChainReplies (server_of H.ZoneHandler S.signature_for catalog.now) zone.1 request.now
         (reply_edns catalog.now.nsid request.now.message.edns) now replies ×
-        AllZip (IsEncodingOf request.now.protocol) replies encoded)) }
+        AllZip (IsEncodingOf Protocol.Tcp) replies encoded)) }
 {
     let Some(chain) = chain_above(catalog, request)? else {
         return Ok(None);

@@ -1,132 +1,217 @@
-//! Replies over UDP: none is longer than the server's own limit, and none has records in answer to a transfer.
+//! Replies over UDP: none is longer than its client takes and the server allows.
 
-ghost use Rattle.std.specs.Prelude.{◌≡◌, ◌≤◌, ◌<◌, All, IfOk, IsTrue, length};
+ghost use Rattle.std.specs.Prelude.{◌≡◌, ◌↔◌, ◌≤◌, ◌⊎◌, ℕ, All, IfOk, IfSome, IsNone, IsTrue, length};
+ghost use Rattle.std.specs.List.{AllZip};
 ghost use Rattle.std.specs.Option.{option_copied};
-ghost use Rattle.wire_messages.specs.serialize.writing.Reply.{size_limit};
-ghost use Rattle.wire_messages.specs.declared.op.header.Header.{Header};
 ghost use Rattle.hickory_wire.specs.serialize.writing.ReplyParts.{ReplyEncoded};
-ghost use Rattle.hickory_base.specs.responses.EncodingSinks.{IsEncodingOf};
-ghost use Rattle.hickory_server.specs.server.Fitted.{IsFitted, header_alone, id_of, without_signature};
-ghost use Rattle.hickory_server.specs.server.Ruling.{truncation};
+ghost use Rattle.hickory_server.specs.server.Fitted.{Fits, HasRoomFor, IsCutTo, IsFitted, IsLongestFront, IsReferral, LacksRoom, front_of, has_name_server};
+ghost use Rattle.hickory_server.specs.server.Written.{IsBare, with_tc};
 ghost use Rattle.hickory_server.specs.server.ServedBy.{AreSent, IsBounded};
 
-use crate::server::writing::{Contents, edns_of, encoded, without_records};
+use crate::server::rules::Rules;
+use crate::server::writing::{Contents, bare, encoded_with_header};
 use hickory_base::message_request::MessageRequest;
 use hickory_base::server::Request;
-use hickory_wire::{Edns, Items, MessageType, Metadata, Octets, OpCode, ProtoError, Protocol};
+use hickory_wire::{
+    Edns, Header, Items, Metadata, Octets, ProtoError, Protocol, Record, RecordType,
+};
 use std::alloc::{AllocError, Global};
-use std::net::SocketAddr;
 
-/// How many bytes a reply over UDP may have that has this OPT record.
-fn payload(edns: Option<&Edns>) -> u16
-    ensures { result ≡ size_limit Protocol.Udp (option_copied edns.entry) }
-{
-    match edns {
-        None => 512,
-        Some(edns) => edns.max_payload(),
-    }
-}
-
-/// The reply to a request over UDP that says no more than that the whole is to be had over TCP: TC, its questions, and
-/// its OPT record.
-pub(crate) fn truncated(alloc: Global, request: &Request) -> Result<Octets, AllocError>
-    ensures { IfOk result (IsEncodingOf Protocol.Udp (truncation request.now)) }
-{
-    let message = request.message();
-    let mut metadata = Metadata::response_from_request(&message.metadata);
-    metadata.truncation = true;
-    let edns = edns_of(alloc, message);
-    let count = message.queries.len() as u16;
-    let contents = without_records(metadata, message.queries.as_bytes(), count, edns.as_ref());
-    let reply = encoded(alloc, &contents, payload(edns.as_ref()));
-    drop(edns);
-    reply
-}
-
-/// The bytes of a reply that was read, with as many records as fit the limit. A signature over the longer one would not
-/// hold, so there is none.
-fn shortened(alloc: Global, reply: &MessageRequest, limit: u16) -> Result<Octets, AllocError>
+/// The reply to a request that says no more than that the whole is to be had over TCP: TC, its questions, and its OPT
+/// record.
+pub(crate) fn truncated(
+    alloc: Global,
+    request: &MessageRequest,
+    metadata: Metadata,
+    limit: u16,
+) -> Result<Octets, AllocError>
     requires { 12 ≤ limit }
-    ensures reply { IfOk result (λ bytes. (header : Header) ×
-        ReplyEncoded limit (without_signature reply.now) bytes header) }
+    ensures reply { IfOk result (IsBare limit request.now (with_tc metadata)) }
     ensures within { IfOk result (λ bytes. length bytes ≤ limit) }
 {
-    let count = reply.queries.len() as u16;
-    let edns = reply.edns.as_ref();
+    let mut metadata = metadata;
+    metadata.truncation = true;
+    bare(alloc, request, metadata, limit)
+}
+
+/// Whether there is an NS record among these.
+fn has_name_server(records: &[Record]) -> bool
+    ensures { result ≡ has_name_server records.now }
+{
+    records.iter().any(|r| r.rdata.record_type().value() == RecordType::NS.value())
+}
+
+/// Whether a message is a referral (RFC 1034 section 4.3.2 step 3b).
+fn is_referral(reply: &MessageRequest) -> bool
+    ensures { IsTrue result ↔ IsReferral reply.now }
+{
+    !reply.metadata.authoritative
+        && reply.answers.as_slice().is_empty()
+        && has_name_server(reply.authorities.as_slice())
+}
+
+/// The header and the bytes of what a message says, with this EDNS and the first so many of its additionals, as far as
+/// there is room. A signature over the longer message would not hold, so there is none.
+fn front(
+    alloc: Global,
+    reply: &MessageRequest,
+    edns: Option<&Edns>,
+    count: usize,
+    limit: u16,
+) -> Result<(Header, Octets), AllocError>
+    requires count { count ≤ length reply.now.additionals }
+    requires header { 12 ≤ limit }
+    ensures front { IfOk result (λ made.
+        ReplyEncoded limit (front_of reply.now (option_copied edns.entry) count) made.1 made.0) }
+    ensures within { IfOk result (λ made. length made.1 ≤ limit) }
+{
+    let question_count = reply.queries.len() as u16;
     let contents = Contents {
         metadata: reply.metadata,
         question: reply.queries.as_bytes(),
-        question_count: count,
+        question_count,
         edns,
         answers: reply.answers.as_slice(),
         authorities: reply.authorities.as_slice(),
-        additionals: reply.additionals.as_slice(),
+        additionals: &reply.additionals.as_slice()[..count],
     };
-    encoded(alloc, &contents, limit)
+    encoded_with_header(alloc, &contents, limit)
 }
 
-/// The header of a reply to the message of this identifier that has no room: TC, and nothing else.
-fn header_alone(alloc: Global, id: u16, limit: u16) -> Result<Octets, AllocError>
+/// Whether the bytes of a message are whole and within the limit.
+fn fits(header: &Header, bytes: &Octets, limit: u16) -> bool
+    ensures { IsTrue result ↔ Fits limit header.now bytes.now }
+{
+    !header.metadata.truncation && bytes.len() <= usize::from(limit)
+}
+
+/// The bytes of a message with as many of its additionals as have room beside its OPT record, so many at most, or
+/// `None` if there is no room for it without additionals.
+fn longest(
+    alloc: Global,
+    reply: &MessageRequest,
+    most: usize,
+    limit: u16,
+) -> Result<Option<Octets>, AllocError>
+    requires { most ≤ length reply.now.additionals }
+    ensures front { IfOk result (λ made. IfSome made (IsLongestFront limit reply.now most)) }
+    ensures none { IfOk result (λ made. IsNone made → LacksRoom limit (front_of reply.now reply.now.edns 0)) }
+    ensures within { IfOk result (λ made. IfSome made (λ bytes. length bytes ≤ limit)) }
+{
+    let (header, bytes) = front(alloc, reply, reply.edns.as_ref(), most, u16::MAX)?;
+    if fits(&header, &bytes, limit) {
+        return Ok(Some(bytes));
+    }
+    if most == 0 {
+        return Ok(None);
+    }
+    longest(alloc, reply, most - 1, limit)
+}
+
+/// How many additionals of a message have room without its OPT record.
+fn room_without_edns(alloc: Global, reply: &MessageRequest, limit: u16) -> Result<usize, AllocError>
     requires { 12 ≤ limit }
-    ensures reply { IfOk result (λ bytes. (header : Header) × ReplyEncoded limit (header_alone id) bytes header) }
+    ensures room { IfOk result (HasRoomFor limit reply.now) }
+    ensures most { IfOk result (λ count. count ≤ length reply.now.additionals) }
+{
+    let len = reply.additionals.as_slice().len();
+    let (header, _) = front(alloc, reply, None, len, limit)?;
+    Ok(usize::from(header.counts.additionals).min(len))
+}
+
+/// The bytes of a message without the additionals that have no room, or `None` if it is a referral, or if there is no
+/// room for it without additionals.
+fn without_additionals(
+    alloc: Global,
+    reply: &MessageRequest,
+    limit: u16,
+) -> Result<Option<Octets>, AllocError>
+    requires { 12 ≤ limit }
+    ensures front { IfOk result (λ made. IfSome made (λ bytes. (most : ℕ) × ¬ (IsReferral reply.now) ×
+        HasRoomFor limit reply.now most × IsLongestFront limit reply.now most bytes)) }
+    ensures none { IfOk result (λ made. IsNone made →
+        IsReferral reply.now ⊎ LacksRoom limit (front_of reply.now reply.now.edns 0)) }
+    ensures within { IfOk result (λ made. IfSome made (λ bytes. length bytes ≤ limit)) }
+{
+    if is_referral(reply) {
+        return Ok(None);
+    }
+    // If answers have no room, it is found at once, whatever the number of additionals.
+    let (header, least) = front(alloc, reply, reply.edns.as_ref(), 0, u16::MAX)?;
+    if !fits(&header, &least, limit) {
+        return Ok(None);
+    }
+    let most = room_without_edns(alloc, reply, limit)?;
+    longest(alloc, reply, most, limit)
+}
+
+/// What is sent in the place of a message.
+fn cut_to(
+    alloc: Global,
+    request: &MessageRequest,
+    reply: &MessageRequest,
+    limit: u16,
+) -> Result<Octets, AllocError>
+    requires { 12 ≤ limit }
+    ensures cut { IfOk result (IsCutTo limit request.now reply.now) }
     ensures within { IfOk result (λ bytes. length bytes ≤ limit) }
 {
-    let mut metadata = Metadata::new(id, MessageType::Response, OpCode::QUERY);
-    metadata.truncation = true;
-    encoded(alloc, &without_records(metadata, &[], 0, None), limit)
-}
-
-/// The identifier of a message (RFC 1035 section 4.1.1).
-fn id_of(bytes: &[u8]) -> u16
-    requires { 2 ≤ length bytes.now }
-    ensures { result ≡ id_of bytes.now }
-{
-    256 * u16::from(bytes[0]) + u16::from(bytes[1])
+    match without_additionals(alloc, reply, limit)? {
+        Some(bytes) => Ok(bytes),
+        None => truncated(alloc, request, reply.metadata, limit),
+    }
 }
 
 /// What is sent in the place of a longer reply.
-fn cut(alloc: Global, reply: Octets, src: SocketAddr, limit: u16) -> Result<Octets, AllocError>
-    requires fits { 12 ≤ limit }
-    requires long { limit < length reply }
+fn cut(alloc: Global, request: &Request, reply: Octets, limit: u16) -> Result<Octets, AllocError>
+    requires { 12 ≤ limit }
+    ensures cut { IfOk result (IsFitted limit request.now.message reply) }
     ensures within { IfOk result (λ bytes. length bytes ≤ limit) }
-    ensures cut { IfOk result (IsFitted limit reply) }
 {
-    let id = id_of(reply.as_slice());
-    let read = Request::from_bytes(alloc, reply.into_vec(), src, Protocol::Udp);
+    let message = request.message();
+    let read = Request::from_bytes(alloc, reply.into_vec(), request.src(), Protocol::Udp);
     let shorter = match &read {
-        Ok(reply) => shortened(alloc, reply.message(), limit),
+        Ok(reply) => cut_to(alloc, message, reply.message(), limit),
         Err(ProtoError::Memory) => Err(AllocError),
         // A record stands in it that no answer section is read with, as SIG.
-        Err(_) => header_alone(alloc, id, limit),
+        Err(_) => {
+            let metadata = Metadata::response_from_request(&message.metadata);
+            truncated(alloc, message, metadata, limit)
+        }
     };
     drop(read);
     shorter
 }
 
-/// A reply within the limit: itself, or without the records that have no room in full.
-fn bounded(alloc: Global, reply: Octets, src: SocketAddr, limit: u16) -> Result<Octets, AllocError>
+/// A reply within the limit: itself, or what is sent in its place.
+fn bounded(
+    alloc: Global,
+    request: &Request,
+    reply: Octets,
+    limit: u16,
+) -> Result<Octets, AllocError>
     requires { 12 ≤ limit }
-    ensures { IfOk result (IsBounded limit reply) }
+    ensures { IfOk result (IsBounded limit request.now.message reply) }
 {
     if reply.len() <= usize::from(limit) {
         return Ok(reply);
     }
-    cut(alloc, reply, src, limit)
+    cut(alloc, request, reply, limit)
 }
 
-/// Replies within the limit, each itself, or without the records that have no room in full.
+/// Replies within the limit, each itself, or what is sent in its place.
 fn bounded_replies(
     alloc: Global,
+    request: &Request,
     replies: Items<Octets>,
-    src: SocketAddr,
     limit: u16,
 ) -> Result<Items<Octets>, AllocError>
     requires { 12 ≤ limit }
-    ensures { IfOk result (AreSent Protocol.Udp limit replies) }
+    ensures { IfOk result (AllZip (IsBounded limit request.now.message) replies) }
 {
     let mut within = Items::new(alloc);
     for reply in replies.into_vec() {
-        within.push(bounded(alloc, reply, src, limit)?)?;
+        within.push(bounded(alloc, request, reply, limit)?)?;
     }
     Ok(within)
 }
@@ -146,11 +231,11 @@ fn are_within(replies: &[Octets], limit: u16) -> bool
 /// Whether replies to a request are sent as they are: over a stream, and where all are within the limit.
 // speed: served, an address
 #[inline(always)]
-pub(crate) fn are_as_sent(request: &Request, limit: u16, replies: &[Octets]) -> bool
-    ensures { IsTrue result → AreSent request.now.protocol limit replies.now replies.now }
+pub(crate) fn are_as_sent(rules: &Rules, request: &Request, replies: &[Octets]) -> bool
+    ensures { IsTrue result → AreSent rules.now request.now replies.now replies.now }
 {
     match request.protocol() {
-        Protocol::Udp => are_within(replies, limit),
+        Protocol::Udp => are_within(replies, rules.datagram_limit(request)),
         _ => true,
     }
 }
@@ -159,16 +244,16 @@ pub(crate) fn are_as_sent(request: &Request, limit: u16, replies: &[Octets]) -> 
 /// memory where all are within it.
 pub(crate) fn sent(
     alloc: Global,
+    rules: &Rules,
     request: &Request,
-    limit: u16,
     replies: Items<Octets>,
 ) -> Result<Items<Octets>, AllocError>
-    requires { 12 ≤ limit }
-    ensures { IfOk result (AreSent request.now.protocol limit replies) }
+    ensures { IfOk result (AreSent rules.now request.now replies) }
 {
+    let limit = rules.datagram_limit(request);
     match request.protocol() {
         Protocol::Udp if are_within(replies.as_slice(), limit) => Ok(replies),
-        Protocol::Udp => bounded_replies(alloc, replies, request.src(), limit),
+        Protocol::Udp => bounded_replies(alloc, request, replies, limit),
         _ => Ok(replies),
     }
 }

@@ -1,9 +1,9 @@
 //! What a server holds every message to.
 
-ghost use Rattle.std.specs.Prelude.{◌≡◌, ◌≢◌, ◌↔◌, ℕ, Contains, IsTrue, MatchOption, false};
+ghost use Rattle.std.specs.Prelude.{◌≡◌, ◌≢◌, ◌↔◌, ◌≤◌, ℕ, Contains, IsTrue, MatchOption, false};
 ghost use Rattle.wire_messages.specs.declared.op.query.Query.{Query};
 ghost use Rattle.server_limits.specs.Access.{Network};
-ghost use Rattle.hickory_server.specs.server.Ruling.{Asks, AsksForTransfer, IsIncremental, IsOfServedClass, IsQuery, IsRefusedUpdate, IsResponse, IsRuling, IsTransfer, udp_limit};
+ghost use Rattle.hickory_server.specs.server.Ruling.{Asks, AsksForTransfer, IsIncremental, IsOfServedClass, IsQuery, IsRefusedUpdate, IsResponse, IsRuling, IsTransfer, datagram_limit, udp_limit};
 
 use hickory_base::access::AccessControl;
 use hickory_base::message_request::MessageRequest;
@@ -147,6 +147,16 @@ impl Rules {
         ensures { result ≡ udp_limit self.now }
     {
         self.max_udp.max(512)
+    }
+
+    /// How many bytes a reply to a request has at most over UDP.
+    // speed: served, an address
+    #[inline(always)]
+    pub fn datagram_limit(&self, request: &Request) -> u16
+        ensures limit { result ≡ datagram_limit self.now request.now }
+        ensures header { 12 ≤ result }
+    {
+        request.message().max_payload().min(self.udp_limit())
     }
 
     /// What becomes of a query whose one question this is.

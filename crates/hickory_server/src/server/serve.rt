@@ -71,12 +71,12 @@ fn hand_over<S: ReplySigner, H: ZoneHandler>(
     now: u64,
     sink: &mut EncodingSink,
 ) -> Result<(), ServeError>
-    requires { sink.old ≡ record { protocol = request.now.protocol; replies = []; failures = 0 } }
+    requires { sink.old ≡ record { protocol = sink.old.protocol; replies = []; failures = 0 } }
     ensures others { catalog.new ≡ record catalog.old { zones = catalog.new.zones } }
     ensures ok { OnOk result ((replies : List Reply) ×
         RequestAnswered (server_of H.ZoneHandler S.signature_for catalog.old) request.now now replies
         catalog.new.zones ×
-        AllZip (IsEncodingOf request.now.protocol) replies sink.new.replies) }
+        AllZip (IsEncodingOf sink.old.protocol) replies sink.new.replies) }
     ensures err { IfErr result (λ e.
         LeavesRequest (server_of H.ZoneHandler S.signature_for catalog.old) request.now now sink.new e
         catalog.new.zones) }
@@ -94,23 +94,25 @@ fn hand_over<S: ReplySigner, H: ZoneHandler>(
     Ok(())
 }
 
-/// The bytes of the replies to a request, in their order, in the memory of these others.
+/// The bytes of the replies to a request, in their order, each encoded at the limit of a transport, in the memory of
+/// other replies.
 pub(crate) fn replies_to<S: ReplySigner, H: ZoneHandler>(
     alloc: Global,
     catalog: &mut Catalog<S, H>,
     request: &Request,
     now: u64,
+    over: Protocol,
     spare: Items<Octets>,
 ) -> Result<Items<Octets>, ServeError>
     ensures others { catalog.new ≡ record catalog.old { zones = catalog.new.zones } }
     ensures ok { IfOk result (λ encoded. (replies : List Reply) ×
         RequestAnswered (server_of H.ZoneHandler S.signature_for catalog.old) request.now now replies
         catalog.new.zones ×
-        AllZip (IsEncodingOf request.now.protocol) replies encoded) }
+        AllZip (IsEncodingOf over) replies encoded) }
     ensures err { IfErr result (λ e. (sink : EncodedReplies) ×
         LeavesRequest (server_of H.ZoneHandler S.signature_for catalog.old) request.now now sink e catalog.new.zones) }
 {
-    let mut sink = EncodingSink::reusing(alloc, request.protocol(), spare);
+    let mut sink = EncodingSink::reusing(alloc, over, spare);
     hand_over(alloc, catalog, request, now, &mut sink)?;
     Ok(sink.into_replies())
 }
@@ -144,10 +146,12 @@ pub fn serve<S: ReplySigner, H: ZoneHandler>(
     // It is lent where it was read: a request is too large to be handed on.
     let read = Request::from_bytes(alloc, bytes, src, protocol);
     let outcome = match &read {
-        Ok(request) => match replies_to(alloc, catalog, request, now, Items::new(alloc)) {
-            Ok(replies) => Ok(Outcome::Replies(replies)),
-            Err(e) => Err(e),
-        },
+        Ok(request) => {
+            match replies_to(alloc, catalog, request, now, protocol, Items::new(alloc)) {
+                Ok(replies) => Ok(Outcome::Replies(replies)),
+                Err(e) => Err(e),
+            }
+        }
         Err(ProtoError::Memory) => Err(ServeError::Memory),
         Err(_) => Ok(Outcome::Unreadable),
     };

@@ -12,7 +12,7 @@ ghost use Rattle.hickory_catalog.specs.replies.ReplyEdns.{reply_edns};
 ghost use Rattle.hickory_catalog.specs.requests.Server.{server_of};
 ghost use Rattle.hickory_catalog.specs.transfers.WholeTransfers.{TransferReplies};
 ghost use Rattle.hickory_server.specs.server.Above.{FindsAbove};
-ghost use Rattle.hickory_server.specs.server.Ruling.{IsQuery, IsRuling, IsUpdate, code_of_refusal, refusal, udp_limit};
+ghost use Rattle.hickory_server.specs.server.Ruling.{IsQuery, IsRuling, IsUpdate, code_of_refusal, refusal};
 ghost use Rattle.hickory_server.specs.server.ServedBy.{AreSent, BytesServed, LeavesBytes, RequestServed, arrival};
 ghost use Rattle.hickory_server.specs.server.Serving.{LeavesRequest};
 
@@ -29,7 +29,7 @@ use hickory_base::zone_store::{InMemoryZoneHandler, ZoneHandler};
 use hickory_catalog::catalog::Catalog;
 use hickory_catalog::laws::replies_taken;
 use hickory_catalog::signer::ReplySigner;
-use hickory_wire::{Items, NSIDPayload, Octets, ProtoError, Protocol};
+use hickory_wire::{Items, Metadata, NSIDPayload, Octets, ProtoError, Protocol};
 use std::alloc::{AllocError, Global};
 use std::net::{IpAddr, Ipv4Addr, SocketAddr};
 
@@ -58,13 +58,20 @@ fn refused(
 ) -> Result<Items<Octets>, AllocError>
     requires { (query : Query) × (IsQuery request.now.message query ⊎ IsUpdate request.now.message query) }
     ensures { IfOk result (λ encoded. (bytes : List ℕ) × (encoded ≡ bytes ∷ []) ×
-        IsEncodingOf request.now.protocol
+        IsEncodingOf Protocol.Tcp
         (error_reply request.now.message (reply_edns (option_copied nsid.entry) request.now.message.edns)
         (code_of_refusal request.now.message)) bytes) }
 {
     let mut nothing: Catalog<NoKeys, InMemoryZoneHandler> = Catalog::new(alloc, NoKeys);
     nothing.set_nsid(copied(alloc, nsid)?);
-    match replies_to(alloc, &mut nothing, request, now, Items::new(alloc)) {
+    match replies_to(
+        alloc,
+        &mut nothing,
+        request,
+        now,
+        Protocol::Tcp,
+        Items::new(alloc),
+    ) {
         Ok(replies) => Ok(replies),
         Err(_) => Err(AllocError),
     }
@@ -83,10 +90,10 @@ fn refuse<S: ReplySigner, H: ZoneHandler>(
     ensures { IfOk result (λ sent. (encoded : List (List ℕ)) ×
         RequestServed rules.now (server_of H.ZoneHandler S.signature_for catalog.now) request.now now encoded
         catalog.now.zones ×
-        AreSent request.now.protocol (udp_limit rules.now) encoded sent) }
+        AreSent rules.now request.now encoded sent) }
 {
     let replies = refused(alloc, catalog.nsid(), request, now)?;
-    sent(alloc, request, rules.udp_limit(), replies)
+    sent(alloc, rules, request, replies)
 }
 
 /// What is sent to a request that is truncated.
@@ -102,11 +109,13 @@ fn truncate<S: ReplySigner, H: ZoneHandler>(
     ensures { IfOk result (λ sent. (encoded : List (List ℕ)) ×
         RequestServed rules.now (server_of H.ZoneHandler S.signature_for catalog.now) request.now now encoded
         catalog.now.zones ×
-        AreSent request.now.protocol (udp_limit rules.now) encoded sent) }
+        AreSent rules.now request.now encoded sent) }
 {
+    let message = request.message();
+    let metadata = Metadata::response_from_request(&message.metadata);
     let mut replies = Items::new(alloc);
-    replies.push(truncated(alloc, request)?)?;
-    sent(alloc, request, rules.udp_limit(), replies)
+    replies.push(truncated(alloc, message, metadata, u16::MAX)?)?;
+    sent(alloc, rules, request, replies)
 }
 
 /// Hands the replies to a request by a transfer of the whole zone to a sink that has none.
@@ -117,11 +126,11 @@ fn hand_transfer_over<S: ReplySigner, H: ZoneHandler>(
     now: u64,
     sink: &mut EncodingSink,
 ) -> Result<(), AllocError>
-    requires { sink.old ≡ record { protocol = request.now.protocol; replies = []; failures = 0 } }
+    requires { sink.old ≡ record { protocol = Protocol.Tcp; replies = []; failures = 0 } }
     ensures { OnOk result ((replies : List Reply) ×
         TransferReplies (server_of H.ZoneHandler S.signature_for catalog.now) request.now
         (reply_edns catalog.now.nsid request.now.message.edns) now replies ×
-        AllZip (IsEncodingOf request.now.protocol) replies sink.new.replies) }
+        AllZip (IsEncodingOf Protocol.Tcp) replies sink.new.replies) }
 {
     match catalog.transfer(alloc, request, now, sink) {
         Ok(_) => {}
@@ -145,9 +154,9 @@ fn transfer_replies<S: ReplySigner, H: ZoneHandler>(
     ensures { IfOk result (λ encoded. (replies : List Reply) ×
         TransferReplies (server_of H.ZoneHandler S.signature_for catalog.now) request.now
         (reply_edns catalog.now.nsid request.now.message.edns) now replies ×
-        AllZip (IsEncodingOf request.now.protocol) replies encoded) }
+        AllZip (IsEncodingOf Protocol.Tcp) replies encoded) }
 {
-    let mut sink = EncodingSink::new(alloc, request.protocol());
+    let mut sink = EncodingSink::new(alloc, Protocol::Tcp);
     hand_transfer_over(alloc, catalog, request, now, &mut sink)?;
     Ok(sink.into_replies())
 }
@@ -166,10 +175,10 @@ fn transferred<S: ReplySigner, H: ZoneHandler>(
     ensures { IfOk result (λ sent. (encoded : List (List ℕ)) ×
         RequestServed rules.now (server_of H.ZoneHandler S.signature_for catalog.now) request.now now encoded
         catalog.now.zones ×
-        AreSent request.now.protocol (udp_limit rules.now) encoded sent) }
+        AreSent rules.now request.now encoded sent) }
 {
     let replies = transfer_replies(alloc, catalog, request, now)?;
-    sent(alloc, request, rules.udp_limit(), replies)
+    sent(alloc, rules, request, replies)
 }
 
 /// Want of memory before anything was handled.
@@ -199,17 +208,17 @@ fn passed<S: ReplySigner, H: ZoneHandler>(
     ensures ok { IfOk result (λ sent. (encoded : List (List ℕ)) ×
         RequestServed rules.now (server_of H.ZoneHandler S.signature_for catalog.old) request.now now encoded
         catalog.new.zones ×
-        AreSent request.now.protocol (udp_limit rules.now) encoded sent) }
+        AreSent rules.now request.now encoded sent) }
     ensures err { IfErr result (λ e. (sink : EncodedReplies) ×
         LeavesRequest (server_of H.ZoneHandler S.signature_for catalog.old) request.now now sink e catalog.new.zones) }
 {
-    let replies = replies_to(alloc, catalog, request, now, spare)?;
-    let limit = rules.udp_limit();
+    // Whole: what has no room over UDP is left out after it is known which records these are.
+    let replies = replies_to(alloc, catalog, request, now, Protocol::Tcp, spare)?;
     // speed: served, an address
-    if are_as_sent(request, limit, replies.as_slice()) {
+    if are_as_sent(rules, request, replies.as_slice()) {
         return Ok(replies);
     }
-    match sent(alloc, request, limit, replies) {
+    match sent(alloc, rules, request, replies) {
         Ok(sent) => Ok(sent),
         Err(_) => Err(ServeError::MemoryAfterHandling),
     }
@@ -228,12 +237,12 @@ fn from_above<S: ReplySigner, H: ZoneHandler>(
         (λ sent. (encoded : List (List ℕ)) ×
         RequestServed rules.now (server_of H.ZoneHandler S.signature_for catalog.now) request.now now encoded
         catalog.now.zones ×
-        AreSent request.now.protocol (udp_limit rules.now) encoded sent)) }
+        AreSent rules.now request.now encoded sent)) }
 {
     let Some(replies) = replies_from_above(alloc, catalog, request, now)? else {
         return Ok(None);
     };
-    Ok(Some(sent(alloc, request, rules.udp_limit(), replies)?))
+    Ok(Some(sent(alloc, rules, request, replies)?))
 }
 
 /// What is sent to a request that passes and may ask a zone above.
@@ -250,7 +259,7 @@ fn passed_above<S: ReplySigner, H: ZoneHandler>(
     ensures ok { IfOk result (λ sent. (encoded : List (List ℕ)) ×
         RequestServed rules.now (server_of H.ZoneHandler S.signature_for catalog.old) request.now now encoded
         catalog.new.zones ×
-        AreSent request.now.protocol (udp_limit rules.now) encoded sent) }
+        AreSent rules.now request.now encoded sent) }
     ensures err { IfErr result (λ e. (sink : EncodedReplies) ×
         LeavesRequest (server_of H.ZoneHandler S.signature_for catalog.old) request.now now sink e catalog.new.zones) }
 {
@@ -274,7 +283,7 @@ fn ruled<S: ReplySigner, H: ZoneHandler>(
     ensures ok { IfOk result (λ sent. (encoded : List (List ℕ)) ×
         RequestServed rules.now (server_of H.ZoneHandler S.signature_for catalog.old) request.now now encoded
         catalog.new.zones ×
-        AreSent request.now.protocol (udp_limit rules.now) encoded sent) }
+        AreSent rules.now request.now encoded sent) }
     ensures err { IfErr result (λ e. (sink : EncodedReplies) ×
         LeavesRequest (server_of H.ZoneHandler S.signature_for catalog.old) request.now now sink e catalog.new.zones) }
 {
@@ -301,7 +310,7 @@ fn answered<S: ReplySigner, H: ZoneHandler>(
     ensures ok { IfOk result (λ sent. (encoded : List (List ℕ)) ×
         RequestServed rules.now (server_of H.ZoneHandler S.signature_for catalog.old) request.now now encoded
         catalog.new.zones ×
-        AreSent request.now.protocol (udp_limit rules.now) encoded sent) }
+        AreSent rules.now request.now encoded sent) }
     ensures err { IfErr result (λ e. (sink : EncodedReplies) ×
         LeavesRequest (server_of H.ZoneHandler S.signature_for catalog.old) request.now now sink e catalog.new.zones) }
 {
@@ -363,7 +372,10 @@ impl<S: ReplySigner, H: ZoneHandler> Server<S, H> {
     /// 5936 section 4.2). A query for what changed in a zone (IXFR) is answered by what its handlers give as a transfer
     /// (RFC 1995 sections 2 and 4). A query for the DS records of the apex of a zone is answered by the zone above it,
     /// if the server has one (RFC 4035 section 3.1.4.1), and else by that zone itself.
-    /// Over UDP no reply is longer than the client takes, nor than the limit of the rules.
+    /// Over UDP no reply is longer than the client takes, nor than the limit of the rules. If only additionals have no
+    /// room, which are no glue of a referral, they are left out and TC is clear (RFC 2181 section 9). If anything else
+    /// has no room, the reply has TC, the question and no records. It has its OPT record in any case (RFC 6891 section
+    /// 7).
     ///
     /// # Errors
     ///

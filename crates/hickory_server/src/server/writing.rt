@@ -2,16 +2,15 @@
 
 ghost use Rattle.std.specs.Prelude.{◌≡◌, ◌≤◌, IfOk, None, Some, length, max};
 ghost use Rattle.std.specs.Option.{option_copied};
-ghost use Rattle.wire_messages.specs.declared.op.header.Header.{Header};
 ghost use Rattle.hickory_wire.specs.serialize.writing.ReplyParts.{ReplyEncoded};
 ghost use Rattle.hickory_base.specs.responses.Responses.{error_metadata};
 ghost use Rattle.hickory_catalog.specs.replies.ReplyEdns.{reply_edns};
-ghost use Rattle.hickory_server.specs.server.Written.{bare_message, said};
+ghost use Rattle.hickory_server.specs.server.Written.{IsBare, IsEncoding, bare_message, said};
 
 use hickory_base::message_request::MessageRequest;
 use hickory_wire::encoder_laws::what_is_written_keeps_the_limit;
 use hickory_wire::{
-    Edns, Metadata, Octets, Record, ReplyParts, ResponseCode, encode_message_parts,
+    Edns, Header, Metadata, Octets, Record, ReplyParts, ResponseCode, encode_message_parts,
 };
 use std::alloc::{AllocError, Global};
 
@@ -54,10 +53,14 @@ pub fn without_records<'a>(
     }
 }
 
-/// The bytes of a reply, with as many records as fit the limit.
-pub fn encoded(alloc: Global, contents: &Contents<'_>, limit: u16) -> Result<Octets, AllocError>
-    ensures reply { IfOk result (λ bytes. (header : Header) × ReplyEncoded limit (said contents.now) bytes header) }
-    ensures within { IfOk result (λ bytes. length bytes ≤ max limit 12) }
+/// The header and the bytes of a reply, with as many records as fit the limit. TC says that one is left out.
+pub(crate) fn encoded_with_header(
+    alloc: Global,
+    contents: &Contents<'_>,
+    limit: u16,
+) -> Result<(Header, Octets), AllocError>
+    ensures reply { IfOk result (λ made. ReplyEncoded limit (said contents.now) made.1 made.0) }
+    ensures within { IfOk result (λ made. length made.1 ≤ max limit 12) }
 {
     what_is_written_keeps_the_limit();
     let nothing: &[Record] = &[];
@@ -73,8 +76,19 @@ pub fn encoded(alloc: Global, contents: &Contents<'_>, limit: u16) -> Result<Oct
         signature: None,
     };
     match encode_message_parts(alloc, limit, parts) {
-        Ok(made) => Ok(Octets::from_vec(made.1)),
+        Ok(made) => Ok((made.0, Octets::from_vec(made.1))),
         Err(_) => Err(AllocError),
+    }
+}
+
+/// The bytes of a reply, with as many records as fit the limit.
+pub fn encoded(alloc: Global, contents: &Contents<'_>, limit: u16) -> Result<Octets, AllocError>
+    ensures reply { IfOk result (IsEncoding limit (said contents.now)) }
+    ensures within { IfOk result (λ bytes. length bytes ≤ max limit 12) }
+{
+    match encoded_with_header(alloc, contents, limit) {
+        Ok(made) => Ok(made.1),
+        Err(e) => Err(e),
     }
 }
 
@@ -96,6 +110,25 @@ pub fn edns_of(alloc: Global, message: &MessageRequest) -> Option<Edns>
         None => None,
         Some(asked) => Some(answered_edns(alloc, asked)),
     }
+}
+
+/// The bytes of a message of this header, with the questions of a request, an OPT record if the request has one, and
+/// nothing else, within a limit.
+pub fn bare(
+    alloc: Global,
+    message: &MessageRequest,
+    metadata: Metadata,
+    limit: u16,
+) -> Result<Octets, AllocError>
+    ensures reply { IfOk result (IsBare limit message.now metadata) }
+    ensures within { IfOk result (λ bytes. length bytes ≤ max limit 12) }
+{
+    let edns = edns_of(alloc, message);
+    let count = message.queries.len() as u16;
+    let contents = without_records(metadata, message.queries.as_bytes(), count, edns.as_ref());
+    let made = encoded(alloc, &contents, limit);
+    drop(edns);
+    made
 }
 
 /// The header of a reply with this response code.

@@ -11,7 +11,7 @@ use Rattle.hickory_base.specs.requests.RequestReading.{IsQuestionSection, messag
 use Rattle.hickory_base.specs.requests.Requests.{ReceivedRequest}
 use Rattle.hickory_base.specs.responses.EncodingSinks.{EncodedReplies}
 use Rattle.hickory_catalog.specs.requests.Server.{Server}
-use Rattle.hickory_server.specs.server.Ruling.{IsResponse, udp_limit}
+use Rattle.hickory_server.specs.server.Ruling.{IsResponse}
 use Rattle.hickory_server.specs.server.ServedBy.{AreSent, IsMessageOf, RequestServed, ServedBy, request}
 use Rattle.hickory_server.specs.server.Serving.{IsRequestOf, LeavesRequest, LeavesUnserved}
 use Rattle.hickory_server.specs.declared.server.answer.Answer.TheVariants.{Replies}
@@ -36,9 +36,9 @@ module _ {bytes : List ℕ} {source : SocketAddr} {protocol : Protocol} {now : �
   module _ {H : Type 0} (rules : Rules) (server : Server H) (allowed : IsAllowed rules.access.deny rules.access.allow (socket_ip source)) (read : IsRequestOf message r) where
     -- what is sent to the request is sent to the message
     pub served : (encoded sent : List (List ℕ)) (zones : List (DomainName × List H)) → 12 ≤ length bytes → ¬ (IsResponse bytes)
-        → RequestServed rules server r now encoded zones → AreSent r.protocol (udp_limit rules) encoded sent → ServedBy rules server message (Replies sent) zones
+        → RequestServed rules server r now encoded zones → AreSent rules r encoded sent → ServedBy rules server message (Replies sent) zones
     served encoded sent zones whole no_response served_so are =
-        request {request = r} {encoded = encoded} (rw is.source_is allowed) (rw is.bytes_are whole) (rw is.bytes_are no_response) read (rw is.now_is served_so) (rw read.protocol_is at are) refl
+        request {request = r} {encoded = encoded} (rw is.source_is allowed) (rw is.bytes_are whole) (rw is.bytes_are no_response) read (rw is.now_is served_so) are refl
 
     -- what the request leaves is what the message leaves
     pub left : (sink : EncodedReplies) (e : ServeError) (zones : List (DomainName × List H)) → LeavesRequest server r now sink e zones → LeavesUnserved rules.access server message e zones

@@ -44,9 +44,9 @@ module _ {S H : Type 0} (handler : Ghosts H) (signature_for : S → Signer) (fit
       all_read decodes protocol request (reply_edns catalog.nsid request.message.edns) questions replies encoded (fit catalog request now replies zones answered) made
 
   pub steps_read : Repeats → StepsReadBack handler signature_for
-  steps_read repeats access catalog message outcome zones encoded (denied _ is _) out = absurd cc
-  steps_read repeats access catalog message outcome zones encoded (unreadable _ _ is _) out = absurd cc
-  steps_read repeats access catalog message outcome zones encoded (handled {request = r} {replies = replies} {encoded = made} allowed is answered are out') out =
+  steps_read repeats over access catalog message outcome zones encoded (denied _ is _) out = absurd cc
+  steps_read repeats over access catalog message outcome zones encoded (unreadable _ _ is _) out = absurd cc
+  steps_read repeats over access catalog message outcome zones encoded (handled {request = r} {replies = replies} {encoded = made} allowed is answered are out') out =
       let same : made ≡ encoded = cc in
       record {
         request = r;
@@ -54,8 +54,8 @@ module _ {S H : Type 0} (handler : Ghosts H) (signature_for : S → Signer) (fit
         replies = replies;
         answered = answered;
         read_back = λ repeatable.
-            answers_read catalog r message.now replies zones message.protocol encoded answered (repeats message.bytes.items r is.stands is.questions is.raw repeatable)
-            (subst (λ (bs : List (List ℕ)). AllZip (IsEncodingOf message.protocol) replies bs) same are);
+            answers_read catalog r message.now replies zones over encoded answered (repeats message.bytes.items r is.stands is.questions is.raw repeatable)
+            (subst (λ (bs : List (List ℕ)). AllZip (IsEncodingOf over) replies bs) same are);
       }
 
 -- ---- room for one question

@@ -1,5 +1,5 @@
 -- What follows from what a call's value is.
-use Rattle.std.proofs.Common.{◌≡◌, ℕ, [], Result, Ok, Err, IfErr, refl}
+use Rattle.std.proofs.Common.{◌≡◌, ℕ, [], Option, Some, None, IfSome, Result, Ok, Err, IfErr, refl}
 use Rattle.hickory_base.specs.requests.Requests.{ReceivedRequest}
 use Rattle.hickory_base.specs.responses.EncodingSinks.{EncodedReplies}
 use Rattle.hickory_catalog.specs.requests.Server.{Server}
@@ -17,3 +17,8 @@ leaves_all server request now (Err e) is = let sink : EncodedReplies = record { 
 pub if_err_map : {T E : Type 0} (r : Result T E) (P Q : E → Type 0) → IfErr r P → ((e : E) → P e → Q e) → IfErr r Q
 if_err_map (Ok t) P Q h f = h
 if_err_map (Err e) P Q h f = f e h
+
+-- What holds of what there is leads to more.
+pub if_some_map : {T : Type 0} (o : Option T) (P Q : T → Type 0) → IfSome o P → ((t : T) → P t → Q t) → IfSome o Q
+if_some_map (Some t) P Q h f = f t h
+if_some_map None P Q h f = h

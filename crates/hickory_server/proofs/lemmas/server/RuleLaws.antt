@@ -1,17 +1,15 @@
 -- What holds of whatever becomes of a message by the rules of a server.
-use Rattle.std.proofs.Common.{◌≡◌, ◌≤◌, ◌<◌, ◌⊎◌, inl, inr, ℕ, List, [], ◌∷◌, length, max, Contains, Option, Some, None, Ok, Bool, true, false, refl, sym, ap, subst, ◌∙◌, arith}
-use Rattle.std.specs.Prelude.{◌==◌, ◌^◌, cond}
-use Rattle.std.proofs.lemmas.Bool.{cases_lt}
+use Rattle.std.proofs.Common.{◌≡◌, ◌≤◌, ◌⊎◌, inl, inr, ℕ, List, [], ◌∷◌, length, max, Contains, None, Ok, false, refl, sym, ap, subst, ◌∙◌, arith}
+use Rattle.std.specs.Prelude.{◌==◌}
 use Rattle.std.specs.List.{AllByRecursion, AllZip}
 use Rattle.wire_names.specs.rr.domain.DomainName.{DomainName}
 use Rattle.wire_names.specs.rr.domain.NameOrder.{lower_name}
 use Rattle.wire_names.specs.declared.error.DecodeError.{DecodeError}
-use Rattle.wire_messages.specs.op.EdnsFields.{EdnsFields}
-use Rattle.wire_messages.specs.serialize.writing.Reply.{Reply, size_limit}
-use Rattle.wire_messages.specs.Numbers.{code_form_err, code_not_auth, code_refused, opcode_query, opcode_update}
+use Rattle.wire_messages.specs.serialize.writing.Reply.{Reply}
+use Rattle.wire_messages.specs.Numbers.{code_form_err, opcode_query, opcode_update}
 use Rattle.wire_messages.specs.declared.op.header.Header.{Header}
 use Rattle.wire_messages.specs.declared.op.query.Query.{Query}
-use Rattle.wire_messages.specs.declared.protocol.Protocol.TheVariants.{Udp}
+use Rattle.wire_messages.specs.declared.protocol.Protocol.TheVariants.{Tcp, Udp}
 use Rattle.wire_reading.specs.serialize.reading.MessageReading.{Fault, Reads}
 use Rattle.wire_reading.specs.declared.op.message.Message.{Message}
 use Rattle.wire_writing.specs.serialize.writing.Writing.{Encoded}
@@ -20,27 +18,25 @@ use Rattle.hickory_base.specs.requests.Questions.{one_query}
 use Rattle.hickory_base.specs.requests.RequestReading.{message_of}
 use Rattle.hickory_base.specs.requests.Requests.{ReceivedRequest}
 use Rattle.hickory_base.specs.declared.requests.message_request.MessageRequest.{MessageRequest}
-use Rattle.hickory_base.specs.responses.EncodingSinks.{IsEncodingOf}
 use Rattle.hickory_base.specs.responses.Responses.{error_metadata}
 use Rattle.hickory_base.specs.declared.zone_store.handler.ZoneHandler.{Ghosts}
 use Rattle.hickory_catalog.specs.queries.Queries.{ChainReplies}
 use Rattle.hickory_catalog.specs.requests.Alone.{ApexesStay, ChainServedAlone, OfZoneIsDecided, OneChain, OthersStay, ServedAlone}
 use Rattle.hickory_catalog.specs.requests.Requests.{asks}
 use Rattle.hickory_catalog.specs.zones.Find.{IsNearest, MayAnswer, OneNearest}
-use Rattle.hickory_catalog.specs.replies.DecodedReplies.{ChainRepliesFit, ErrorRepliesFit, RepliesTo, RequestRepliesFit, TransferRepliesFit}
-use Rattle.hickory_catalog.specs.replies.ReplyEdns.{reply_edns, with_high_code}
+use Rattle.hickory_catalog.specs.replies.ReplyEdns.{reply_edns}
 use Rattle.hickory_catalog.specs.requests.Server.{server_of}
 use Rattle.hickory_catalog.specs.replies.Signing.{Signer}
 use Rattle.hickory_catalog.specs.transfers.WholeTransfers.{TransferredAlone}
 use Rattle.hickory_catalog.specs.declared.catalog.Catalog.{Catalog}
 use Rattle.hickory_server.specs.server.Above.{AsksForDs, IsAskedAbove}
 use Rattle.hickory_server.specs.server.Above.{above as name_above}
-use Rattle.hickory_server.specs.server.Ruling.{IsQuery, IsRuling, code_of_refusal, truncation, udp_limit}
+use Rattle.hickory_server.specs.server.Ruling.{IsQuery, IsRuling, datagram_limit, udp_limit}
 use Rattle.hickory_server.specs.server.ServedBy.{IsBounded, RequestServed, ServedBy, ZonesAnswer, refused, truncated, transferred, passed, short, response, request}
 use Rattle.hickory_server.specs.server.ServedBy as by_rules
 use Rattle.hickory_server.specs.server.ServedLaws.{HasNoReply, IsFor, IsMessageFor, IsSent, LetThroughSteps, NoReplyToResponses, OtherZonesStay, ServedAloneBy, WithinBothLimits}
 use Rattle.hickory_server.specs.server.ServedLaws as for_laws
-use Rattle.hickory_server.specs.server.Serving.{IsRequestOf, Step, handled}
+use Rattle.hickory_server.specs.server.Serving.{IsRequestOf, StepOver, handled}
 use Rattle.hickory_server.specs.server.Serving as without
 use Rattle.hickory_server.specs.server.Written.{bare_message}
 use Rattle.hickory_server.specs.declared.server.answer.Answer.{Answer}
@@ -64,13 +60,6 @@ not_truncated rules r passes (query, is, class, transfer, whole, may, udp) = ((p
 
 not_transferred : (rules : Rules) (r : ReceivedRequest) → IsRuling rules r Pass → IsRuling rules r Transfer → ⊥
 not_transferred rules r passes (query, is, class, incremental, may) = (passes.0 query is).1 incremental
-
--- a code of a refusal has twelve bits
-small_code : (message : MessageRequest) → code_of_refusal message < 2 ^ 12
-small_code message = by (message.metadata.op_code == opcode_update) where
-  by : (is : Bool) → cond is code_not_auth code_refused < 2 ^ 12
-  by true = omega arith
-  by false = omega arith
 
 -- what is transferred asks for no DS records
 not_for_ds : (rules : Rules) (r : ReceivedRequest) (name : DomainName) → IsRuling rules r Transfer → AsksForDs r.message name → ⊥
@@ -100,12 +89,12 @@ module _ {S H : Type 0} (handler : Ghosts H) (signature_for : S → Signer) wher
     passes = through.passes r is
 
     by : RequestServed rules (server_of handler signature_for catalog) r message.now encoded zones
-        → (outcome : Outcome) × Step rules.access (server_of handler signature_for catalog) message outcome zones × IsSent message (udp_limit rules) outcome answer
+        → (outcome : Outcome) × StepOver Tcp rules.access (server_of handler signature_for catalog) message outcome zones × IsSent rules message outcome answer
     by (refused ruling _ _ _) = absurd (not_refused rules r passes ruling)
     by (truncated ruling _ _ _) = absurd (not_truncated rules r passes ruling)
     by (transferred ruling _ _ _) = absurd (not_transferred rules r passes ruling)
     by (passed _ (by_rules.above asked _ _) _) = absurd (through.not_above r is _ asked)
-    by (passed _ (by_rules.own _ answered) encodings) = (outcomes.Replies encoded, handled allowed is answered (rw is.protocol_is at encodings) refl, (sent, are, answer_is))
+    by (passed _ (by_rules.own _ answered) encodings) = (outcomes.Replies encoded, handled allowed is answered encodings refl, (r, sent, is, are, answer_is))
 
   no_reply : (answer : Answer) → answer ≡ answers.Response ⊎ (answer ≡ answers.Unreadable) ⊎ (answer ≡ answers.Denied) → HasNoReply answer
   no_reply answers.Denied is = tt
@@ -126,64 +115,13 @@ module _ {S H : Type 0} (handler : Ghosts H) (signature_for : S → Signer) wher
 
   -- ---- limits
 
-  module _ (limited : (limit : ℕ) (reply : Reply) (bytes : List ℕ) (header : Header) → Encoded limit reply bytes header → length bytes ≤ max limit 12)
-      (fit : RequestRepliesFit handler signature_for) (chains_fit : ChainRepliesFit handler signature_for) (transfers_fit : TransferRepliesFit handler signature_for) (errors_fit : ErrorRepliesFit) where
-    -- whatever a client takes is at least a header
-    edns_limit : (identifier : Option (List ℕ)) (asked : Option EdnsFields) (code : ℕ) → max (size_limit Udp (with_high_code code (reply_edns identifier asked))) 12 ≤ payload_limit asked
-    edns_limit identifier None code = omega arith
-    edns_limit identifier (Some asked) code = omega arith
-
-    plain_limit : (identifier : Option (List ℕ)) (asked : Option EdnsFields) → max (size_limit Udp (reply_edns identifier asked)) 12 ≤ payload_limit asked
-    plain_limit identifier None = omega arith
-    plain_limit identifier (Some asked) = omega arith
-
-    abbrev Takes : ReceivedRequest → List ℕ → Type 0
-    Takes r bytes = length bytes ≤ payload_limit r.message.edns
-
-    to_takes : (identifier : Option (List ℕ)) (r : ReceivedRequest) (reply : Reply) (bytes : List ℕ) → RepliesTo r.message (reply_edns identifier r.message.edns) reply → IsEncodingOf Udp reply bytes → Takes r bytes
-    to_takes identifier r reply bytes to made =
-        let here : length bytes ≤ max (size_limit Udp reply.edns) 12 = limited (size_limit Udp reply.edns) reply bytes made.0 made.1.encoded in
-        let there = edns_limit identifier r.message.edns reply.metadata.response_code in
-        let same : max (size_limit Udp reply.edns) 12 ≡ max (size_limit Udp (with_high_code reply.metadata.response_code (reply_edns identifier r.message.edns))) 12 =
-        ap (λ (o : Option EdnsFields). max (size_limit Udp o) 12) to.edns_is in
-        omega (arith, here, there, same)
-
-    all_take : (identifier : Option (List ℕ)) (r : ReceivedRequest) (replies : List Reply) (encoded : List (List ℕ)) → AllByRecursion (RepliesTo r.message (reply_edns identifier r.message.edns)) replies
-        → AllZip (IsEncodingOf Udp) replies encoded → AllByRecursion (Takes r) encoded
-    all_take identifier r [] [] to made = tt
-    all_take identifier r [] (bytes ∷ others) to made = absurd made
-    all_take identifier r (reply ∷ replies) [] to made = absurd made
-    all_take identifier r (reply ∷ replies) (bytes ∷ others) to made = (to_takes identifier r reply bytes to.0 made.0, all_take identifier r replies others to.1 made.1)
-
-    taken : (rules : Rules) (catalog : Catalog S H) (r : ReceivedRequest) (now : ℕ) (encoded : List (List ℕ)) (zones : List (DomainName × List H)) → r.protocol ≡ Udp
-        → RequestServed rules (server_of handler signature_for catalog) r now encoded zones → AllByRecursion (Takes r) encoded
-    taken rules catalog r now encoded zones udp (refused {bytes = bytes} _ made is _) =
-        let to = errors_fit r.message (reply_edns catalog.nsid r.message.edns) (code_of_refusal r.message) (small_code r.message) in
-        rw is (to_takes catalog.nsid r _ bytes to (rw udp at made), tt)
-    taken rules catalog r now encoded zones udp (truncated {bytes = bytes} _ made is _) =
-        let m = rw udp at made in
-        let here = limited _ (truncation r) bytes m.0 m.1.encoded in
-        let there = plain_limit None r.message.edns in
-        rw is (omega (arith, here, there), tt)
-    taken rules catalog r now encoded zones udp (transferred {replies = replies} _ replied made _) =
-        all_take catalog.nsid r replies encoded (transfers_fit catalog r (reply_edns catalog.nsid r.message.edns) now replies replied) (rw udp at made)
-    taken rules catalog r now encoded zones udp (passed {replies = replies} _ (by_rules.above {zone = zone_is} _ replied _) made) =
-        all_take catalog.nsid r replies encoded (chains_fit catalog zone_is.1 r (reply_edns catalog.nsid r.message.edns) now replies replied) (rw udp at made)
-    taken rules catalog r now encoded zones udp (passed {replies = replies} _ (by_rules.own _ answered) made) = all_take catalog.nsid r replies encoded (fit catalog r now replies zones answered) (rw udp at made)
-
-    bounded_both : (rules : Rules) (r : ReceivedRequest) (encoded sent : List (List ℕ)) → AllZip (IsBounded (udp_limit rules)) encoded sent → AllByRecursion (Takes r) encoded
+  module _ (limited : (limit : ℕ) (reply : Reply) (bytes : List ℕ) (header : Header) → Encoded limit reply bytes header → length bytes ≤ max limit 12) where
+    bounded_both : (rules : Rules) (r : ReceivedRequest) (encoded sent : List (List ℕ)) → AllZip (IsBounded (datagram_limit rules r) r.message) encoded sent
         → AllByRecursion (λ (bytes : List ℕ). (length bytes ≤ udp_limit rules) × (length bytes ≤ payload_limit r.message.edns)) sent
-    bounded_both rules r [] [] are takes = tt
-    bounded_both rules r [] (bytes ∷ others) are takes = absurd are
-    bounded_both rules r (long ∷ longs) [] are takes = absurd are
-    bounded_both rules r (long ∷ longs) (bytes ∷ others) are takes =
-        let keeps : length long ≤ udp_limit rules → length bytes ≡ length long = λ fits. ap length (are.0.1 fits) in
-        ((are.0.0, one (length long) (length bytes) (udp_limit rules) (payload_limit r.message.edns) are.0.0 keeps takes.0), bounded_both rules r longs others are.1 takes.1) where
-          one : (l b limit payload : ℕ) → b ≤ limit → (l ≤ limit → b ≡ l) → l ≤ payload → b ≤ payload
-          one l b limit payload within keeps takes = by (cases_lt limit l) where
-            by : (limit < l) ⊎ (l ≤ limit) → b ≤ payload
-            by (inl over) = omega (arith, over, within, takes)
-            by (inr fits) = let same = keeps fits in omega (arith, same, takes)
+    bounded_both rules r [] [] are = tt
+    bounded_both rules r [] (bytes ∷ others) are = absurd are
+    bounded_both rules r (long ∷ longs) [] are = absurd are
+    bounded_both rules r (long ∷ longs) (bytes ∷ others) are = ((omega (arith, are.0.0), omega (arith, are.0.0)), bounded_both rules r longs others are.1)
 
     pub within : WithinBothLimits handler signature_for
     within rules catalog message sent zones (by_rules.denied _ is _) udp = absurd cc
@@ -196,7 +134,8 @@ module _ {S H : Type 0} (handler : Ghosts H) (signature_for : S → Signer) wher
         let few : length reply ≤ 512 = omega (arith, small) in inr (is, rw same (few, tt))
     within rules catalog message sent zones (request {request = r} {encoded = encoded} {sent = made} _ _ _ is served are answer_is) udp =
         let same : made ≡ sent = cc in
-        inl (r, is, bounded_both rules r encoded sent (rw (← same) (rw udp at are)) (taken rules catalog r message.now encoded zones (is.protocol_is ∙ udp) served))
+        let over : r.protocol ≡ Udp = is.protocol_is ∙ udp in
+        inl (r, is, bounded_both rules r encoded sent (rw (← same) (rw over at are)))
 
   -- ---- isolation
 

@@ -5,4 +5,4 @@ use Rattle.hickory_server.specs.server.ServedBy.{IsBounded}
 use Rattle.hickory_server.proofs.server.datagrams.bounded_replies.Given as goal
 
 abbrev pub invariant-loop-reply : goal.invariant-loop-reply
-invariant-loop-reply l = AllZip (IsBounded l.limit) l.yielded l.within × (l.fn.replies ≡ l.yielded ++ l.reply-iterator.rest.items)
+invariant-loop-reply l = AllZip (IsBounded l.limit l.request.message) l.yielded l.within × (l.fn.replies ≡ l.yielded ++ l.reply-iterator.rest.items)

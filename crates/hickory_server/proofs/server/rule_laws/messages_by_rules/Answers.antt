@@ -9,7 +9,7 @@ returns-clause-responses g c = no_replies g.H.ZoneHandler g.S.ReplySigner.signat
 
 pub returns-clause-within : goal.returns-clause-within
 returns-clause-within g c =
-    within g.H.ZoneHandler g.S.ReplySigner.signature_for c.what_is_written_keeps_the_limit.ensures.encoded c.replies_of_requests.ensures.requests c.replies_of_requests.ensures.chains c.replies_of_requests.ensures.transfers c.replies_of_requests.ensures.errors
+    within g.H.ZoneHandler g.S.ReplySigner.signature_for c.what_is_written_keeps_the_limit.ensures.encoded
 
 pub returns-clause-alone : goal.returns-clause-alone
 returns-clause-alone g c =

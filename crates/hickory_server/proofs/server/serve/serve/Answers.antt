@@ -37,7 +37,7 @@ returns-clause-ok g c =
           let it = c.from_bytes-read.ensures in
           let read = read_as c.args.message w.in-Ok.request w.in-Ok.is it.stands it.found it.questions it.raw it.source in
           let r = w.in-Ok-replies_to.ensures.ok in
-          rw (w.outcome-is, w.catalog-is) (handled allowed read r.1 (rw read.protocol_is at r.2) refl)
+          rw (w.outcome-is, w.catalog-is) (handled allowed read r.1 r.2 refl)
       | in-Ok+in-Err-replies_to w ↦ rw w.outcome-is tt
       | in-Err-Memory w ↦ rw w.outcome-is tt
       | in-Err w ↦

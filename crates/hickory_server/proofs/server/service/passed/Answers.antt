@@ -7,12 +7,12 @@ pub returns-then-are_as_sent-clause-ok : goal.returns-then-are_as_sent-clause-ok
 returns-then-are_as_sent-clause-ok g c =
     let (replies, answered, made) = c.in_ok-replies.ensures.ok in
     let yes : IsTrue c.are_as_sent.result = search rules in
-    (c.in_ok-replies.replies, passed c.requires.passes (own c.requires.not_above answered) made, rw (c.as_slice.ensures, c.udp_limit-limit.ensures) at c.are_as_sent.ensures yes)
+    (c.in_ok-replies.replies, passed c.requires.passes (own c.requires.not_above answered) made, rw c.as_slice.ensures at c.are_as_sent.ensures yes)
 
 pub returns-in-Ok-clause-ok : goal.returns-in-Ok-clause-ok
 returns-in-Ok-clause-ok g c =
     let (replies, answered, made) = c.in_ok-replies.ensures.ok in
-    (c.in_ok-replies.replies, passed c.requires.passes (own c.requires.not_above answered) made, rw c.udp_limit-limit.ensures at c.in-Ok.ensures)
+    (c.in_ok-replies.replies, passed c.requires.passes (own c.requires.not_above answered) made, c.in-Ok.ensures)
 
 -- the request was answered, as it is where a sink fails at its reply
 pub returns-in-Err-clause-err : goal.returns-in-Err-clause-err

@@ -5,6 +5,5 @@ use Rattle.hickory_server.proofs.server.service.truncate.Goals as goal
 
 pub returns : goal.returns
 returns g c =
-    let (query, is, class, transfer, whole, may, udp) = c.requires in
     let one : c.push.new.self ≡ c.in_ok-truncated.field-0 ∷ [] = search rules in
-    if_ok_map c.sent.result _ _ c.sent.ensures (λ sent are. (c.push.new.self, truncated c.requires (rw udp c.in_ok-truncated.ensures) one refl, rw c.udp_limit.ensures at are))
+    if_ok_map c.sent.result _ _ c.sent.ensures (λ sent are. (c.push.new.self, truncated c.requires (rw (c.response_from_request-metadata.ensures, c.message-message.ensures) at c.in_ok-truncated.ensures.reply) one refl, are))
