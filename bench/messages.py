@@ -9,12 +9,12 @@ import sys
 sys.path.insert(0, os.path.join(os.path.dirname(os.path.realpath(__file__)), "../clients"))
 import updates
 
-# What the server holds: two zones that take updates, one that everybody may have, and a list of blocked names.
+# What the server holds: two zones that take updates, two more, and a list of blocked names.
 APEX = "$TTL 3600\n@ IN SOA ns admin 7 3600 1800 604800 86400\n@ IN NS ns\n"
 ZONES = ["example.com", "example.org", "example.net", "example.edu"]
 ARGUMENTS = [
     *(word for it in ZONES for word in ("--zone", f"{it}={it}.zone")),
-    "--blocklist", "blocked", "--keys", "keys", "--nsid", "ns1", "--deny-transfer", "198.51.100.0/24",
+    "--blocklist", "blocked", "--keys", "keys", "--nsid", "ns1", "--allow-transfer", "192.0.2.0/24",
     *(word for it in ZONES[:2] for word in ("--allow-update", f"{it}={updates.KEY} zone ANY")), "lines",
 ]
 

@@ -7,8 +7,10 @@ int control = -1;
 static void write_zones(int fd) {
     for (int i = 0; i < settings->count; i++) {
         const char *name = settings->given[i].option->name, *text = settings->given[i].text;
-        if (strcmp(name, "--zone") == 0 || strcmp(name, "--journal") == 0)
-            dprintf(fd, "%s %s%s\n", name + 2, text, settings->has_failed[i] ? " (not written: no updates)" : "");
+        bool is_zone = strcmp(name, "--zone") == 0, has_failed = settings->has_failed[i];
+        if (is_zone || strcmp(name, "--journal") == 0)
+            dprintf(fd, "%s %s%s\n", name + 2, text,
+                    !has_failed ? "" : is_zone ? " (not taken: SERVFAIL)" : " (not written: no updates)");
     }
 }
 
@@ -44,7 +46,7 @@ static void obey(int fd, const char *line) {
     while (it < end && strcmp(it->line, line) != 0)
         it++;
     if (it == end)
-        say("%s: not a command of zonedctl", line);
+        say("\"%s\" is not a command of zonedctl", line);
     bool is_done = it < end && (it->obey == NULL || it->obey());
     dprintf(fd, is_done ? "ok\n%s" : "failed\n%s\n", is_done ? "" : said);
     if (is_done && it->write != NULL)

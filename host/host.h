@@ -72,7 +72,9 @@ struct settings {
     } *given; /* options with a text, in their order */
     int count, numbers[NUMBERS];
     bool is_check;        /* the files are only to be read */
-    bool *has_failed;     /* for each text: it is a journal that could not be written. All processes share these */
+    bool is_first;        /* they are read for the first time, to be served */
+    bool *has_failed;     /* for each text: a zone whose file is not taken, or a journal that could not be written. All
+                             processes share these */
     zone_service service; /* at NULL if there is none */
 };
 extern struct settings *settings;
@@ -85,11 +87,10 @@ extern struct shared {
     uint32_t log_turn;
 } *shared;
 
-/* settings.c: given is the text of an option, the last if there are several, or NULL. read_arguments puts new settings
- * into the place of those before, which remain, and keeps their number of workers, if there are any; load makes the
- * server that the settings ask for, from their files. Both are 0, or -1 with a line on the standard error. read_all is
- * the bytes of an open file, or NULL. forget frees settings, if there are any, and gives memory back to the system. say
- * reports what is wrong in a line on the standard error, and keeps it for zonedctl and systemd. */
+/* settings.c: given is the text of an option, the last if there are several, or NULL. read_arguments makes new
+ * settings, and keeps the number of workers and the settings of before, if there are any. load makes the server that
+ * they ask for, from their files. Both are 0, or -1 with a line on the standard error. read_all is the bytes of an open
+ * file, or NULL. forget frees settings, if there are any. say reports what is wrong, and keeps it in said. */
 const char *given(const char *option);
 int read_arguments(char **arguments);
 int load(void);

@@ -102,17 +102,14 @@ static void write_down(void) {
 
 /* Has the library open the journal of NAME=FILE, in FILE and FILE-wal. */
 static int open_journal(const char *text, bool *has_failed, int seconds) {
-    const char *mark = strchr(text, '='), *path = mark != NULL ? mark + 1 : text;
+    const char *mark = strchr(text, '='), *path = mark + 1;
     size_t place = opened, len[2], fault_len = 0;
     uint32_t serials[2], is = ZONE_SERVICE_FAULT;
     bool takes_updates;
-    if (path == text || mark == text || *path == 0)
-        return complain("%s: not NAME=FILE", text);
     uint8_t *first = open_file(path, "", seconds, &len[0]), *second = NULL;
     if (first != NULL && (second = open_file(path, "-wal", seconds, &len[1])) != NULL)
-        is = zone_service_open_journal(&settings->service, (const uint8_t *)text, (size_t)(mark - text), first,
-                                       len[0], second, len[1], serials, &takes_updates, fault, sizeof fault,
-                                       &fault_len);
+        is = zone_service_open_journal(&settings->service, (const uint8_t *)text, (size_t)(mark - text), first, len[0],
+                                       second, len[1], serials, &takes_updates, fault, sizeof fault, &fault_len);
     free(first);
     free(second);
     if (is != ZONE_SERVICE_DONE)

@@ -1,9 +1,8 @@
 /* zoned: sockets, processes, files and signals around the proved library zone_service. docs/reference/zoned.md says how
  * it is started. The parent opens the sockets, lets its privileges go, has the library read the files, and forks the
- * workers, which share what was read. It serves nothing itself. SIGHUP reads the files again: if all are taken, new
- * workers begin at the same sockets, and the old ones end after the replies at hand; else the old ones go on. A worker
- * that ends by itself is begun again. SIGTERM ends all. If zones have journals, there is one worker, which opens them
- * once the one before it has closed them. */
+ * workers, which share what was read. SIGHUP reads the files again: if all are taken, new workers begin, and the old
+ * ones end after the replies at hand; else the old ones go on. A worker that ends by itself is begun again. SIGTERM
+ * ends all. If zones have journals, there is one worker, which opens them once the one before has closed them. */
 #include "host.h"
 
 #define SECOND 1000 /* milliseconds */
@@ -38,7 +37,7 @@ static int let_privileges_go(void) {
     struct passwd *user = name != NULL ? getpwnam(name) : NULL;
     if (name != NULL && (user == NULL || initgroups(user->pw_name, user->pw_gid) != 0 || setgid(user->pw_gid) != 0 ||
                          setuid(user->pw_uid) != 0))
-        return complain("%s: cannot become that user", name);
+        return complain("--user: %s: \"%s\"", user == NULL ? "no such user" : strerror(errno), name);
     return prctl(PR_SET_NO_NEW_PRIVS, 1, 0, 0, 0);
 }
 

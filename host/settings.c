@@ -1,7 +1,6 @@
 /* The arguments and the configuration file of zoned, and the server that the proved library makes of them. */
 #include "host.h"
 
-#define WRONG "wrong arguments; zoned --help says how it is started"
 #define NO_ROOM "more settings than there is room for" /* a fault of zone_service_read_settings */
 #define STEP 1024                                      /* options for which memory is taken at a time */
 
@@ -22,10 +21,10 @@ static const struct option options[] = {
     {"--blocklist", "FILE of names that are blocked, a line each", .set = zone_service_set_blocklist, .is_file = true},
     {"--keys", "FILE of the keys that sign messages (TSIG)", .set = zone_service_set_keys, .is_file = true},
     {"--nsid", "TEXT that identifies this server", .set = zone_service_set_identifier},
-    {"--allow", "NET that may ask", .set = zone_service_set_allowed},
+    {"--allow", "NET that may ask; no other may then", .set = zone_service_set_allowed},
     {"--deny", "NET that may not", .set = zone_service_set_denied},
-    {"--allow-transfer", "NET that may have zones transferred", .set = zone_service_set_transfer_allowed},
-    {"--deny-transfer", "NET that may not", .set = zone_service_set_transfer_denied},
+    {"--allow-transfer", "NET that may have zones transferred; nobody by default", .set = zone_service_set_transfer_allowed},
+    {"--deny-transfer", "NET, part of an allowed one, that may not", .set = zone_service_set_transfer_denied},
     {"--allow-transfer-key", "NAME of a key that may have zones transferred from anywhere",
      .set = zone_service_allow_transfer_key},
     {"--zone", "NAME=FILE: the zone at NAME, from a zone file", .set_pair = zone_service_add_zone, .is_file = true},
@@ -76,19 +75,24 @@ static int keep(const struct option *option, const char *text) {
     return 0;
 }
 
-/* Takes an option, of its name without dashes. */
-static int put_option(const char *name, const char *text) {
+/* Takes an option, of its name with so many dashes. Its help begins with the form of its text. */
+static int put_option(const char *name, int dashes, const char *text) {
     const struct option *o = options;
     char *rest;
-    while (o->name != NULL && strcmp(name, o->name + 2) != 0)
+    while (o->name != NULL && strcmp(name, o->name + 2 - dashes) != 0)
         o++;
-    if (o->name == NULL || text == NULL)
-        return complain(WRONG);
+    if (o->name == NULL && strcmp(name, "--config") != 0)
+        return complain("\"%s\" is not an option; zoned --help lists them", name);
+    if (text == NULL)
+        return complain("%s has no value", name);
+    size_t form = strcspn(o->says, ":"), front = strcspn(text, "=");
+    if (memchr(o->says, '=', form) != NULL && (front == 0 || strlen(text) < front + 2))
+        return complain("%s: \"%s\" is not %.*s", o->name, text, (int)form, o->says);
     if (o->number == NO_NUMBER)
         return keep(o, text);
     long n = strtol(text, &rest, 10);
     if (rest == text || *rest != 0 || n < o->least || n > o->most)
-        return complain("%s: not a number from %d to %d", text, o->least, o->most);
+        return complain("%s: \"%s\" is not a number from %d to %d", o->name, text, o->least, o->most);
     settings->numbers[o->number] = (int)n;
     return 0;
 }
@@ -124,9 +128,11 @@ static uint8_t fault[256];
 static size_t fault_len;
 #define FAULT fault, sizeof fault, &fault_len
 
-static int told(const char *what, uint32_t set) {
+/* Reports it, if there is something. If it begins with a line, that is one of the file. */
+static int told(const char *file, const char *what, uint32_t set) {
+    const char *says = (const char *)fault, *blank = says[strspn(says, "0123456789")] == ':' ? "" : " ";
     if (set != ZONE_SERVICE_DONE || fault_len > 0)
-        say("%s: %.*s", what, (int)fault_len, (const char *)fault);
+        say("%s:%s%.*s", *blank == 0 ? file : what, blank, (int)fault_len, says);
     return set == ZONE_SERVICE_DONE ? 0 : -1;
 }
 
@@ -154,8 +160,8 @@ static char *read_settings(const char *path, const uint8_t *text, size_t len, si
             is = zone_service_read_settings(names, names_len, text, len, (uint8_t *)read, room, put, FAULT);
     } while (fault_len == sizeof NO_ROOM - 1 && memcmp(fault, NO_ROOM, fault_len) == 0);
     if (read == NULL)
-        say("%s: no memory for its settings", path);
-    else if (told(path, is) == 0)
+        say("no memory");
+    else if (told(path, path, is) == 0)
         return read;
     free(read);
     return NULL;
@@ -170,7 +176,7 @@ static int read_config(const char *path) {
     free(text);
     for (char *at = read; !wrong && at < read + put; at += strlen(at) + 1) {
         const char *name = at;
-        wrong = put_option(name, at += strlen(at) + 1);
+        wrong = put_option(name, 0, at += strlen(at) + 1);
     }
     free(read);
     return wrong;
@@ -194,17 +200,20 @@ static bool is_lost(const struct given *rule) {
 
 /* Whether options go together: 0, or -1. */
 static int agree(void) {
-    bool has_updates = given("--allow-update") != NULL, has_journal = given("--journal") != NULL, loses = false;
-    bool listens = given("--listen") != NULL, is_adopted = adopted_sockets() > 0;
+    bool loses = false, listens = given("--listen") != NULL, is_adopted = adopted_sockets() > 0;
     for (const struct given *g = settings->given; !loses && g < settings->given + settings->count; g++)
         loses = is_lost(g);
-    if (given("--zone") == NULL || (listens && is_adopted) || (!listens && !is_adopted && !settings->is_check))
-        return complain(WRONG);
-    if (has_updates && settings->numbers[WORKERS] > 1)
-        return complain("--allow-update wants one worker, since of several one alone would see an update");
+    if (given("--zone") == NULL)
+        return complain("--zone is missing");
+    if (listens && is_adopted)
+        return complain("--listen is given, and systemd has opened the sockets (LISTEN_FDS)");
+    if (!listens && !is_adopted && !settings->is_check)
+        return complain("--listen is missing");
+    if (given("--allow-update") != NULL && settings->numbers[WORKERS] > 1)
+        return complain("--allow-update needs one worker: only one of several would see an update");
     if (loses)
-        warnx("updates %sare lost when it ends, and when files are read anew",
-              has_journal ? "of zones without a journal " : "");
+        warnx("updates %sare lost when it ends, and when files are read again",
+              given("--journal") != NULL ? "of zones without a journal " : "");
     return 0;
 }
 
@@ -224,7 +233,8 @@ int read_arguments(char **arguments) {
         else if (strcmp(*a, "--config") == 0 && a[1] != NULL)
             wrong = read_config(*++a);
         else
-            wrong = put_option(strncmp(*a, "--", 2) == 0 ? *a + 2 : "", a[1]), a++;
+            wrong = put_option(*a, 2, a[1]), a++;
+    settings->is_first = running == 0 && !settings->is_check;
     if (running > 0)
         settings->numbers[WORKERS] = running;
     return wrong ? -1 : agree();
@@ -233,8 +243,8 @@ int read_arguments(char **arguments) {
 /* Tells the library of a text: 0, or -1. */
 static int set(zone_service *service, const struct option *o, const char *text) {
     const char *mark = o->set_pair != NULL ? strchr(text, '=') : NULL, *value = mark != NULL ? mark + 1 : text;
-    if (o->set_pair != NULL && (mark == NULL || mark == text || *value == 0))
-        return complain("%s: not NAME=%s", text, o->is_file ? "FILE" : "RULE");
+    char what[sizeof said];
+    snprintf(what, sizeof what, "%s: \"%.250s\"", o->name, text);
     size_t len = strlen(value);
     uint8_t *bytes = o->is_file ? read_file(value, &len) : (uint8_t *)strdup(value);
     if (bytes == NULL)
@@ -243,7 +253,17 @@ static int set(zone_service *service, const struct option *o, const char *text) 
     uint32_t is = o->set != NULL ? o->set(service, bytes, len, FAULT)
                                  : o->set_pair(service, name, (size_t)(mark - text), bytes, len, FAULT);
     free(bytes);
-    return told(text, is);
+    return told(value, o->is_file && mark == NULL ? value : what, is);
+}
+
+/* Has queries for a zone whose file is not taken answered SERVFAIL, when zoned starts: 0, or -1. */
+static int fail_zone(const struct given *g) {
+    size_t len = strcspn(g->text, "=");
+    if (!settings->is_first || g->option->set_pair != zone_service_add_zone || g->text[len] == 0)
+        return -1;
+    settings->has_failed[g - settings->given] = true;
+    warnx("%s: queries for the zone get SERVFAIL until a reload", g->text);
+    return told(NULL, g->text, zone_service_fail_zone(&settings->service, (const uint8_t *)g->text, len, FAULT));
 }
 
 int load(void) {
@@ -253,12 +273,14 @@ int load(void) {
         mmap(NULL, (size_t)settings->count, PROT_READ | PROT_WRITE, MAP_SHARED | MAP_ANONYMOUS, -1, 0);
     if (settings->has_failed == MAP_FAILED || zone_service_create(&service->at) != ZONE_SERVICE_DONE)
         return complain("no memory");
-    int wrong = told("--max-udp", zone_service_set_max_udp(service, (uint16_t)n[MAX_UDP], FAULT)) ||
-                told("--rate-limit", zone_service_set_rate_limit(service, (uint32_t)n[RATE], (uint32_t)n[SLIP], FAULT));
+    int wrong =
+        told(NULL, "--max-udp", zone_service_set_max_udp(service, (uint16_t)n[MAX_UDP], FAULT)) ||
+        told(NULL, "--rate-limit", zone_service_set_rate_limit(service, (uint32_t)n[RATE], (uint32_t)n[SLIP], FAULT));
     for (const struct option *o = options; o->name != NULL; o++)
         for (const struct given *g = settings->given; !wrong && g < settings->given + settings->count; g++)
-            wrong = g->option == o && (o->set != NULL || o->set_pair != NULL) && set(service, o, g->text);
-    wrong = wrong ? -1 : told("the zones", zone_service_serve_zones(service, FAULT));
+            wrong = g->option == o && (o->set != NULL || o->set_pair != NULL) && set(service, o, g->text) != 0 &&
+                    fail_zone(g) != 0;
+    wrong = wrong ? -1 : told(NULL, "--allow-update", zone_service_serve_zones(service, FAULT));
     malloc_trim(0);
     return wrong;
 }

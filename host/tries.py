@@ -70,8 +70,8 @@ def read(stream):
     return stream.read(int.from_bytes(length, "big")) if len(length) == 2 else None
 
 
-def over_tcp(message, source="127.0.0.1"):
-    with tcp(source=source) as s:
+def over_tcp(message, source="127.0.0.1", port=PORT):
+    with tcp(port, source) as s:
         s.sendall(frame(message))
         return read(s.makefile("rb"))
 
@@ -208,6 +208,8 @@ def try_rules():
     want("a transfer to an address that may have none is refused", code(reply) == 5 and answers(reply) == 0)
     reply = udp(query("example.com", 252), source="127.0.0.8")
     want("over UDP too", code(reply) == 5 and answers(reply) == 0 and not is_truncated(reply))
+    reply = over_tcp(query("example.com", 252), port=PORT + 1)
+    want("without an option that allows it nobody has a transfer", code(reply) == 5 and answers(reply) == 0)
     want("that address may ask", answers(udp(query("www.example.com"), source="127.0.0.8")) == 1)
     for dns_class, name in ((3, "CH"), (4, "HS"), (254, "NONE"), (7, "no class")):
         reply = udp(query("www.example.com", dns_class=dns_class))
@@ -427,7 +429,7 @@ def try_same(zone):
     messages += [query("www.example.com") + b"\0", query("www.example.com")[:-3], b"\x12\x34" + bytes(10), query("example.com", 41)]
 
     def serve(word, data):
-        return subprocess.run([ZONE_SERVE, "--zone", f"example.com={zone}", word], input=data, stdout=subprocess.PIPE, stderr=subprocess.DEVNULL).stdout
+        return subprocess.run([ZONE_SERVE, "--zone", f"example.com={zone}", "--allow-transfer", "127.0.0.1", word], input=data, stdout=subprocess.PIPE, stderr=subprocess.DEVNULL).stdout
 
     want(f"{len(messages)} datagrams are answered as by zone_serve", all((udp(m, 0.3) or b"") == serve("udp", m) for m in messages))
     answered = [m for m in messages if udp(m, 0.3) is not None]
@@ -527,20 +529,20 @@ def try_keys(folder, zone, port):
     zones = ["--zone", f"example.com={zone}", "--keys", keys]
     want("rules and several workers are refused", told(["--listen", f"127.0.0.1@{port}", *zones, "--allow-update", "example.com=one.example", "--workers", "2"])[0] == 2)
     faults = {
-        "a rule of no zone": ("example.org=one.example", "is of no zone that is served"),
-        "a rule of no key": ("example.com=two.example", "there is no key of this name"),
-        "a rule without a key": ("example.com", "not NAME=RULE"),
+        "a rule of no zone": ("example.org=one.example", "zoned: --allow-update: rule 1 of who may update is for a zone that is not served\n"),
+        "a rule of no key": ("example.com=two.example", 'zoned: --allow-update: "example.com=two.example": there is no key of this name\n'),
+        "a rule of no type": ("example.com=one.example zone NONE", 'zoned: --allow-update: "example.com=one.example zone NONE": unknown type\n'),
     }
     for what, (rule, says) in faults.items():
         status_is, said = told(["--check", *zones, "--allow-update", rule])
-        want(f"{what} is told", status_is == 1 and says in said)
+        want(f"{what} is told", status_is == 1 and said.endswith(says))
     open(keys, "w").write(KEYS.replace("AAECAw", "!!"))
     status_is, said = told(["--check", *zones])
-    want("a bad file of keys is told, and nothing of its secret", status_is == 1 and "line 1" in said and "BAUG" not in said)
+    want("a bad file of keys is told, and nothing of its secret", status_is == 1 and said.startswith(f"zoned: {keys}:1: ") and "BAUG" not in said)
     with open(config, "a") as it:
         it.write('tipes = ["AAAA"]\n')
     lines = open(config).read().count("\n")
-    want("a wrong key of a rule is told with its line", told(["--config", config, "--check"])[1].startswith(f'zoned: {config}: line {lines}: "zone" wants'))
+    want("a wrong key of a rule is told with its line", told(["--config", config, "--check"])[1].startswith(f'zoned: {config}:{lines}: "zone" must be '))
 
 
 class Kept:
@@ -554,7 +556,7 @@ class Kept:
         open(self.zone, "w").write(SOA_AND_NS + WWW % 1)
         open(self.keys, "w").write(KEYS)
         self.words = ["--zone", f"example.com={self.zone}", "--keys", self.keys, "--allow-update", "example.com=one.example subdomain dyn.example.com A"]
-        self.words += ["--journal", f"example.com={self.journal}"]
+        self.words += ["--journal", f"example.com={self.journal}", "--allow-transfer", "127.0.0.1"]
         self.host = None
 
     def start(self, waits=True):
@@ -708,7 +710,7 @@ def try_journal_clients(folder, port):
     large = "".join(f'large IN TXT "{i:03}{"x" * 250}"\n' for i in range(240))
     open(kept.zone, "w").write(SOA_AND_NS + WWW % 1 + records + large)
     path = os.path.join(kept.folder, "statistics")
-    kept.words += ["--deny", "127.0.0.9", "--deny-transfer", "127.0.0.8", "--max-udp", "700", "--nsid", "here", "--statistics", path]
+    kept.words += ["--deny", "127.0.0.9", "--allow-transfer", "127.0.0.0/8", "--deny-transfer", "127.0.0.8", "--max-udp", "700", "--nsid", "here", "--statistics", path]
     want("a large zone with a journal is ready", kept.start())
     with tcp(port) as s:
         f = s.makefile("rb")
@@ -759,16 +761,16 @@ def try_one_writer(folder, port):
     here = ["--listen", f"127.0.0.1@{port}"]
     entry = update("a.dyn.example.com", 1).replace(b"com", b"net")
     os.remove(kept.journal + "-wal")
-    for what, text, says in (("of another zone", b"\1" + len(entry).to_bytes(4, "big") + entry + b"\0", "an entry is no update of this zone"), ("that is a text", b"@ IN SOA ns admin 1 2 3 4 5\n", "it is no journal")):
+    for what, text, says in (("of another zone", b"\1" + len(entry).to_bytes(4, "big") + entry + b"\0", "an entry is no update of this zone"), ("that is a text", b"@ IN SOA ns admin 1 2 3 4 5\n", "not a journal")):
         open(kept.journal, "wb").write(text)
         status_is, said = told([*here, *kept.words])
         want(f"a journal {what} is reported", status_is == 1 and f"zoned: {kept.journal}: {says}\n" in said)
         want("and it is as it was", open(kept.journal, "rb").read() == text)
     os.remove(kept.journal)
     os.mkfifo(kept.journal)
-    for path, says in ((kept.folder + "/none/journal", "No such file or directory"), (kept.folder, "Is a directory"), (kept.journal, "it is not a regular file"), ("", "not NAME=FILE")):
+    for path, says in ((kept.folder + "/none/journal", "No such file or directory"), (kept.folder, "Is a directory"), (kept.journal, "it is not a regular file")):
         status_is, said = told([*here, *kept.words[:-1], f"example.com={path}"])
-        want(f"a file that cannot be a journal is reported: {says}", status_is == 1 and f"zoned: {path or 'example.com='}: {says}\n" in said)
+        want(f"a file that cannot be a journal is reported: {says}", status_is == 1 and f"zoned: {path}: {says}\n" in said)
     os.remove(kept.journal)
     status_is, said = told([*here, *kept.words[:2], *kept.words[-2:]])
     want("a journal of a zone without rules is reported", status_is == 1 and "no zone of this name takes updates" in said)
@@ -1249,7 +1251,7 @@ def ask_on(s, stop, found):
 
 def try_deadline(zone, port):
     """A client that always asks, one that reads slowly, and one that never reads: none keeps an old worker for long, at a reload and at the end."""
-    host = start(["--zone", f"example.com={zone}", "--tcp-idle", "600"], port)
+    host = start(["--zone", f"example.com={zone}", "--tcp-idle", "600", "--allow-transfer", "127.0.0.1"], port)
     want("a server with patience is ready", wait_for(port))
     for number, what in ((signal.SIGHUP, "a reload"), (signal.SIGTERM, "the end")):
         stop, found, old = threading.Event(), [], children(host.pid)
@@ -1464,7 +1466,7 @@ def try_control(folder, port):
     want("querylog off and on begins a file that was moved away", control(path, "querylog", "off")[0] == control(path, "querylog", "on")[0] == 0 and udp(query("www.example.com"), port=port) and goes_on(lambda: len(open(log).readlines()) == 1, 2))
     for words in (["nonsense"], ["querylog"], ["querylog", "maybe"], ["x" * 500]):
         status_is, said = control(path, *words)
-        want("what is not a command is reported", status_is == 1 and said.endswith(": not a command of zonedctl\n"))
+        want("what is not a command is reported", status_is == 1 and said.endswith('" is not a command of zonedctl\n'))
     want("no command is too few, and three are too many", [control(None)[0], control(path, "querylog", "on", "now")[0]] == [2, 2])
     with socket.socket(socket.AF_UNIX, socket.SOCK_STREAM) as s:
         s.connect(path)
@@ -1478,6 +1480,28 @@ def try_control(folder, port):
     want("without a log none is begun", control(path, "querylog", "on") == (1, "--query-log is not given\n"))
     host.terminate()
     want("it ends", host.wait(5) == 0)
+
+
+def try_bad_zones(folder, port):
+    """Zones whose files are not taken: at a start they get SERVFAIL, and the others are answered; a reload changes nothing until the files are mended."""
+    good, bad, none, path = (os.path.join(folder, it) for it in ("good.zone", "bad.zone", "none.zone", "bad.control"))
+    open(good, "w").write(SOA_AND_NS + WWW % 1)
+    open(bad, "w").write("nonsense")
+    words = ["--zone", f"example.com={good}", "--zone", f"sub.example.com={bad}", "--zone", f"example.net={none}"]
+    host = start([*words, "--control", path], port, stderr=subprocess.PIPE, text=True)
+    want("a server with bad zones starts, and answers the good one", wait_for(port) and udp(query("www.example.com"), port=port)[-1] == 1)
+    want("the bad ones are answered SERVFAIL, also below a good one", [code(udp(query(it), port=port)) for it in ("www.sub.example.com", "example.net")] == [2, 2])
+    want("zones says which they are", control(path, "zones")[1].count("(not taken: SERVFAIL)\n") == 2)
+    open(good, "w").write(SOA_AND_NS + WWW % 2)
+    want("a reload with them fails, and changes nothing", control(path, "reload")[0] == 1 and udp(query("www.example.com"), port=port)[-1] == 1)
+    for it in (bad, none):
+        open(it, "w").write(SOA_AND_NS + WWW % 3)
+    want("once they are mended it is done", control(path, "reload") == (0, "") and udp(query("www.sub.example.com"), port=port)[-1] == 3)
+    want("zones says so", "SERVFAIL" not in control(path, "zones")[1])
+    host.terminate()
+    said = host.communicate(timeout=15)[1]
+    want("they were logged, each with its file", f"sub.example.com={bad}: " in said and f"{none}: cannot be read" in said and host.returncode == 0)
+    want("a zone that is given twice ends the start", told(["--listen", f"127.0.0.1@{port}", *words, "--zone", f"example.com={good}"])[0] == 1)
 
 
 def try_journal_control(folder, port):
@@ -1517,7 +1541,7 @@ def try_one_server(zone, port):
 
 def try_slow_reader(zone, port):
     """A client that goes on reading has its transfers whole, however long the system waits until it takes more from zoned."""
-    host = start(["--zone", f"example.com={zone}", "--tcp-idle", "1"], port)
+    host = start(["--zone", f"example.com={zone}", "--tcp-idle", "1", "--allow-transfer", "127.0.0.1"], port)
     want("a server that is not patient is ready", wait_for(port))
     with socket.socket() as s:
         s.setsockopt(socket.SOL_SOCKET, socket.SO_RCVBUF, 32768)
@@ -1548,6 +1572,9 @@ def try_starts(folder, zone, port):
         other.bind(path[:107])
         status_is, said = told([*here, "--statistics", path])
         want("a path that is too long for a socket is told, and removes nothing", status_is == 1 and "has more than 107 bytes" in said and os.path.exists(path[:107]))
+    want("a user that does not exist is told", told([*here, "--user", "no-such-user"]) == (1, 'zoned: --user: no such user: "no-such-user"\n'))
+    many = [it for last in range(1, 18) for it in ("--listen", f"127.0.0.{last}@{port}")]
+    want("more than 16 addresses are refused", told([*many, "--zone", f"example.com={zone}"]) == (1, "zoned: --listen is given more than 16 times\n"))
     for place, why in ((folder, "it is not a regular file"), (os.path.join(folder, "none"), "No such file or directory")):
         want(f"it is told why a file cannot be read: {why}", told(["--check", "--zone", f"example.com={place}"]) == (1, f"zoned: {place}: cannot be read: {why}\n"))
     keys = os.path.join(folder, "both")
@@ -1565,11 +1592,35 @@ def try_arguments(zone, bad):
     want("--version tells it", named.returncode == 0 and named.stdout.startswith("zoned 0."))
     want("--check takes a good file", status(["--check", "--zone", f"example.com={zone}"]) == 0)
     want("and not a bad one", status(["--check", "--zone", f"example.com={bad}"]) == 1)
-    want("a wrong option is told", status(["--zones"]) == 2 and status(["--max-udp", "511"]) == 2 and status(["--listen", "127.0.0.1"]) == 2)
-    want("a wrong network is told", status(["--check", "--zone", f"example.com={zone}", "--allow", "1.2.3"]) == 1)
-    for port in ("0", "65536", "99999", "", "5x"):
-        code, said = told(["--listen", f"127.0.0.1@{port}", "--zone", f"example.com={zone}"])
-        want(f'the port "{port}" is refused', code == 1 and said == f"zoned: 127.0.0.1@{port}: the port is not a number from 1 to 65535\n")
+    here = ["--zone", f"example.com={zone}"]
+    wrong = {
+        (): "--zone is missing",
+        ("--zones", "x"): '"--zones" is not an option; zoned --help lists them',
+        ("zones",): '"zones" is not an option; zoned --help lists them',
+        ("--zone",): "--zone has no value",
+        ("--config",): "--config has no value",
+        ("--zone", "example.com"): '--zone: "example.com" is not NAME=FILE',
+        ("--zone", "=x"): '--zone: "=x" is not NAME=FILE',
+        ("--journal", "example.com="): '--journal: "example.com=" is not NAME=FILE',
+        ("--allow-update", "k.example"): "--allow-update: \"k.example\" is not 'ZONE=KEY [zone|subdomain NAME|name NAME|self] [TYPE..]'",
+        ("--max-udp", "511"): '--max-udp: "511" is not a number from 512 to 65535',
+        ("--workers", "abc"): '--workers: "abc" is not a number from 1 to 64',
+        tuple(here): "--listen is missing",
+        (*here, "--allow-update", "example.com=k", "--workers", "2", "--check"): "--allow-update needs one worker: only one of several would see an update",
+    }
+    for words, says in wrong.items():
+        want(f"wrong arguments are told: {says}", told(words) == (2, f"zoned: {says}\n"))
+    adopted = subprocess.run(["sh", "-c", 'LISTEN_PID=$$ LISTEN_FDS=1 exec "$@"', "sh", ZONED, *here, "--listen", "127.0.0.1@5390"], stderr=subprocess.PIPE, text=True, timeout=60)
+    want("--listen beside sockets of systemd is told", (adopted.returncode, adopted.stderr) == (2, "zoned: --listen is given, and systemd has opened the sockets (LISTEN_FDS)\n"))
+    want("a wrong network is told", told(["--check", *here, "--allow", "1.2.3"]) == (1, 'zoned: --allow: "1.2.3": not an address\n'))
+    want("a wrong name of a zone is told", told(["--check", "--zone", f"a..b={zone}"]) == (1, f'zoned: --zone: "a..b={zone}": not the name of a zone\n'))
+    long = told(["--check", *here, "--nsid", "x" * 65532])
+    want("a long identifier is told, and only its front is quoted", long == (1, f'zoned: --nsid: "{"x" * 250}": the identifier is too long\n'))
+    said = subprocess.run([ZONED, "--check", *here, "--allow", b"\xff"], stderr=subprocess.PIPE).stderr
+    want("a text that is not UTF-8 is told", said == b'zoned: --allow: "\xff": not UTF-8\n')
+    want("one zone twice is told", told(["--check", *here, *here]) == (1, f'zoned: --zone: "example.com={zone}": there is a zone of this name already\n'))
+    for address in ("127.0.0.1:5390", "localhost@5390", "127.0.0.1@0", "127.0.0.1@65536", "127.0.0.1@99999", "127.0.0.1@", "127.0.0.1@5x"):
+        want(f'the address "{address}" is refused', told(["--listen", address, *here]) == (1, f'zoned: --listen: "{address}" is not ADDRESS[@PORT] with a port from 1 to 65535\n'))
 
 
 def told(words):
@@ -1595,15 +1646,15 @@ def try_configuration(folder, zone, port):
     write(good)
     want("--check takes a good configuration", told(["--config", path, "--check"])[0] == 0)
     write(f'[[zone]]\nname = "example.com"\nfile = "{zone}"\n\n[[zone]]\nname = "example.org"\n')
-    want("a zone may be a table, and one without a file is told", told(["--config", path, "--check"]) == (1, "zoned: example.org=: not NAME=FILE\n"))
+    want("a zone may be a table, and one without a file is told", told(["--config", path, "--check"]) == (2, 'zoned: --zone: "example.org=" is not NAME=FILE\n'))
     write(good)
     faults = {
-        "a name of no option, with its line": ("workers = 1\nworker = 2\n" + good[good.index("[") :], "zoned.toml: line 2: there is no option \"worker\""),
-        "a value of no kind, with its line": ("workers = 1\n\nmax-udp = 1.5\n", "zoned.toml: line 3: \"max-udp\" wants"),
-        "a name without quotes in a table": ("[zone]\na.example = 'x'\n", "zoned.toml: line 2: \"zone\" wants"),
-        "a name of no option in a zone": (f'[[zone]]\nname = "example.com"\nfile = "{zone}"\nfiles = 1\n', "zoned.toml: line 4: \"zone\" wants"),
-        "what is no TOML": ("workers = 1\nlisten = [\n", "line"),
-        "a number that is too large": ("workers = 65\n", "65: not a number from 1 to 64"),
+        "a name of no option, with its line": ("workers = 1\nworker = 2\n" + good[good.index("[") :], "zoned.toml:2: there is no option \"worker\""),
+        "a value of no kind, with its line": ("workers = 1\n\nmax-udp = 1.5\n", "zoned.toml:3: \"max-udp\" must be "),
+        "a name without quotes in a table": ("[zone]\na.example = 'x'\n", "zoned.toml:2: \"zone\" must be "),
+        "a name of no option in a zone": (f'[[zone]]\nname = "example.com"\nfile = "{zone}"\nfiles = 1\n', "zoned.toml:4: \"zone\" must be "),
+        "what is no TOML, with its line": ("workers = 1\nlisten = ?\n", "zoned.toml:2: invalid value"),
+        "a number that is too large": ("workers = 65\n", 'zoned: --workers: "65" is not a number from 1 to 64\n'),
         "a byte that no string of C has": ('nsid = "a\\u0000b"\n', "zero byte"),
     }
     for what, (text, says) in faults.items():
@@ -1665,7 +1716,7 @@ def main():
     notified = socket.socket(socket.AF_UNIX, socket.SOCK_DGRAM)
     notified.bind(os.path.join(folder, "notify"))
     notified.settimeout(60)
-    words = ["--zone", f"example.com={zone}", "--tcp-idle", "2", "--tcp-client", "20", "--deny", "127.0.0.9", "--deny-transfer", "127.0.0.8"]
+    words = ["--zone", f"example.com={zone}", "--tcp-idle", "2", "--tcp-client", "20", "--deny", "127.0.0.9", "--allow-transfer", "127.0.0.0/8", "--deny-transfer", "127.0.0.8"]
     path = os.path.join(folder, "statistics")
     host = start([*words, "--statistics", path], PORT, env={**os.environ, "NOTIFY_SOCKET": os.path.join(folder, "notify")})
     other = start(["--zone", f"example.com={zone}", "--max-udp", "600"], PORT + 1)
@@ -1695,6 +1746,7 @@ def main():
     for it in (try_journal, try_journal_clients, try_one_writer, try_journal_configuration, try_journal_limit, try_journal_at_once, try_journal_full, try_journal_kills, try_crashes, try_journal_reloads, try_frozen, try_journal_control):
         it(folder, PORT + 4)
     try_control(folder, PORT + 2)
+    try_bad_zones(folder, PORT + 2)
     try_activation(zone, PORT + 2)
     try_log(folder, zone, PORT + 2)
     try_pipes(folder, zone, PORT + 2)

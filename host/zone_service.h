@@ -62,7 +62,8 @@ void zone_service_free(zone_service service);
  * text that says why into fault, of at most room bytes and without a zero after it; *length is how many they are. After
  * DONE it is 0, unless lines of a list of blocked names were skipped. After FAULT and MEMORY the server is to be freed: a
  * list of networks may be as before or not, and zone_service_add_zone may have put its zone in place of another zone of
- * that name. Of a file of keys a text says only where it is wrong.
+ * that name. Only after FAULT of a zone's file, zone_service_fail_zone may be called in its place. The place in a file
+ * comes first, as LINE: or LINE:COLUMN:. No text has a part of a file of keys.
  *
  * zone_service_set_blocklist: the names that the lines of a list give, in any of the forms of
  *     docs/reference/zone-files.md, at least one; a second list takes the place of the first. If lines are skipped, the
@@ -72,16 +73,19 @@ void zone_service_free(zone_service service);
  *     first.
  * zone_service_add_zone: the zone at a name (with or without a dot at its end), from the bytes of its zone file, in any
  *     encoding. It is served from then on. $INCLUDE is a fault.
+ * zone_service_fail_zone: a name whose zone has no file that is taken: each query for it is answered SERVFAIL.
  * zone_service_allow_update: a rule of who may update what in the zone of a name (RFC 2136), one more by each call:
  *     KEY [zone|subdomain NAME|name NAME|self] [TYPE..]. Without one a zone takes no update.
  * zone_service_serve_zones: after the last zone and rule, once: gives the zones that were added their rules. No zone
  *     takes updates before. FAULT if a rule is of no zone. A question for the DS records of a zone's apex is answered by
  *     the zone above it, if that is served too (RFC 4035 section 3.1.4.1).
  * zone_service_set_allowed, .._denied: a network, as 192.0.2.0/24, whose addresses may use the server, or may not; one
- *     more by each call.
- * zone_service_set_transfer_allowed, .._denied: the same for transfers (AXFR, IXFR) by those who may use the server.
+ *     more by each call. Everybody may if none is allowed, else only addresses of allowed networks. The longest network
+ *     that has an address decides.
+ * zone_service_set_transfer_allowed, .._denied: the same for transfers (AXFR, IXFR) by those who may use the server, of
+ *     whom nobody may have one if no network is allowed.
  * zone_service_allow_transfer_key: the name of a key. Requests with a good signature by it have transfers from every
- *     address that may use the server, and all others only from allowed networks.
+ *     address that may use the server.
  * zone_service_set_max_udp: how many bytes a reply over UDP has at most, from 512 to 65,535; 1,232 if it is not called.
  * zone_service_set_rate_limit: how many replies to datagrams a network of clients (24 bits of IPv4, 56 of IPv6) gets in a
  *     second, and of how many above that one is sent without records and with TC, while the others are dropped (0: all
@@ -90,6 +94,7 @@ void zone_service_free(zone_service service);
 uint32_t zone_service_set_blocklist(zone_service *service, const uint8_t *text, size_t len, uint8_t *fault, size_t room, size_t *length);
 uint32_t zone_service_add_zone(zone_service *service, const uint8_t *name, size_t name_len, const uint8_t *text, size_t len,
                                uint8_t *fault, size_t room, size_t *length);
+uint32_t zone_service_fail_zone(zone_service *service, const uint8_t *name, size_t len, uint8_t *fault, size_t room, size_t *length);
 uint32_t zone_service_allow_update(zone_service *service, const uint8_t *name, size_t name_len, const uint8_t *rule, size_t len,
                                    uint8_t *fault, size_t room, size_t *length);
 uint32_t zone_service_serve_zones(zone_service *service, uint8_t *fault, size_t room, size_t *length);
@@ -148,7 +153,9 @@ size_t zone_service_take(zone_service *service, uint8_t *out, size_t room, size_
  *     updates: takes the bytes of both files. Journals have the numbers 0, 1, .. in the order of these calls that answered
  *     DONE. serials are those of the zone by its file and by its journal, which counts from then on, and the zone file
  *     does not; a journal without an entry gets the zone as it is. *takes_updates is false if the zone takes none. DONE,
- *     and operations are noted; or FAULT or MEMORY with a text, as settings have it, and the files are as they were.
+ *     and operations are noted; or FAULT or MEMORY with a text, as settings have it, and the files and the zone are as
+ *     they were. If only the zone could not be written to the journal, the zone is as the journal says, and takes no
+ *     updates.
  * zone_service_begin_batch: from now on updates are held: they are made in memory and answered, and noted later.
  * zone_service_end_batch: notes the updates that are held, those of a zone with two syncs. DONE; or MEMORY, and the
  *     process must end before any reply of the batch leaves.

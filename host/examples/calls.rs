@@ -70,7 +70,7 @@ fn refuses() {
 fn settings() {
     let (mut service, mut out) = (ZoneService::new().unwrap(), vec![0; FRAME]);
     service.add_zone("example.com", ZONE).unwrap();
-    assert!(service.add_zone("example.org", b"$INCLUDE x\n").unwrap_err().0.starts_with("line 1"));
+    assert!(service.add_zone("example.org", b"$INCLUDE x\n").unwrap_err().0.starts_with("1:"));
     assert!(service.add_zone("example.com", ZONE).is_err());
     assert!(service.allow("192.0.2.0/33").is_err() && service.set_max_udp(511).is_err());
     service.set_max_udp(512).unwrap();
@@ -109,7 +109,7 @@ fn rules_are_of_zones() {
     service.add_zone("example.com", ZONE).unwrap();
     service.set_keys(b"hmac-sha256:one.example:MTIzNDU2Nzg5MGFiY2RlZjEyMzQ1Njc4OTBhYmNkZWY=\n").unwrap();
     service.allow_update("example.org", "one.example").unwrap();
-    assert_eq!(service.serve_zones().unwrap_err().0, "rule 1 of who may update is of no zone that is served");
+    assert_eq!(service.serve_zones().unwrap_err().0, "rule 1 of who may update is for a zone that is not served");
 }
 
 #[test]

@@ -268,7 +268,7 @@ impl ZoneService {
         self.set(zone_service_set_keys, text)
     }
 
-    /// Lets requests that this key signed have transfers from anywhere, and keeps them from all other networks but those that are allowed.
+    /// Lets requests that this key signed have transfers from anywhere.
     pub fn allow_transfer_key(&mut self, name: &str) -> Result<(), SettingFault> {
         self.set(zone_service_allow_transfer_key, name.as_bytes())
     }

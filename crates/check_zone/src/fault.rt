@@ -7,25 +7,25 @@ use thiserror::Error;
 /// Why the program ends before anything is found.
 #[derive(Clone, Copy, Debug, PartialEq, Eq, Error)]
 pub enum Fault {
-    /// An argument is no text.
+    /// An argument is not UTF-8.
     #[error("an argument is not UTF-8")]
     Arguments,
-    /// The name of the apex is none.
+    /// The text for the name of the apex is not a name.
     #[error("not the name of a zone")]
     Origin,
-    /// Memory was refused.
+    /// An allocation failed.
     #[error("no memory")]
     Memory,
-    /// A record has data that no text stands for.
+    /// A record has data without a text form.
     #[error("a record cannot be printed")]
     Record,
-    /// The output takes nothing.
+    /// The output cannot be written.
     #[error("the output cannot be written")]
     Write,
 }
 
 impl Fault {
-    /// The status that tells it.
+    /// Its exit status.
     pub fn status(self) -> u8 {
         match self {
             Fault::Arguments | Fault::Origin => 2,

@@ -66,7 +66,7 @@ fn line_of_record(
     let kind = finding.kind;
     match told.place_of(number) {
         Some(place) => format!(in alloc;
-            "{}: line {}, column {}: {name} {record_type}: {word}: {kind}",
+            "{}:{}:{}: {name} {record_type}: {word}: {kind}",
             told.name_at(place),
             place.line,
             place.column

@@ -78,7 +78,7 @@ fn tell_of_entry<R: Eprint>(rt: &R, file: &str, error: ZoneFileError) -> u8 {
     if error == ZoneFileError::Memory {
         return tell_of_file(rt, file, FileFault::Memory);
     }
-    let _ = eprintln!(rt; "check_zone: {file}: {error}");
+    let _ = eprintln!(rt; "check_zone: {file}:{error}");
     5
 }
 
@@ -110,10 +110,19 @@ fn serial_of<R: Files + Eprint + Alloc<A = Global>>(
     }
 }
 
-/// Tells why the program ends on the standard error, and gives the status. That it cannot be told changes nothing.
+/// Reports why the program ends on the standard error, and gives the status. A failure to report it changes nothing.
 fn tell<R: Eprint>(rt: &R, fault: Fault) -> u8 {
     let _ = eprintln!(rt; "check_zone: {fault}");
     fault.status()
+}
+
+/// Reports the fault of the argument that has this text, and gives the status.
+fn tell_of_argument<R: Eprint>(rt: &R, text: &str, fault: Fault) -> u8 {
+    if fault.status() != 2 {
+        return tell(rt, fault);
+    }
+    let _ = eprintln!(rt; "check_zone: {text:?} is {fault}");
+    2
 }
 
 /// Whether a fault is that a file is included.
@@ -205,7 +214,7 @@ fn run_matches<R: Files + Print + Eprint + Alloc<A = Global>>(
     };
     let origin = match apex_of(rt.alloc(), text) {
         Ok(origin) => origin,
-        Err(fault) => return tell(rt, fault),
+        Err(fault) => return tell_of_argument(rt, text, fault),
     };
     let with_records = matches.get_flag("print");
     let Some(previous) = matches.get_str("previous") else {
@@ -217,14 +226,32 @@ fn run_matches<R: Files + Print + Eprint + Alloc<A = Global>>(
     }
 }
 
-/// Prints what is said of the arguments, which may be the help that they ask for, and gives the status.
-fn print_of_arguments<R: Print + Eprint>(rt: &R, error: &Error) -> u8 {
+/// Reports what is wrong with the arguments, as one line: the lines of this text before its first empty line.
+fn tell_of_arguments<R: Eprint>(rt: &R, text: &str) -> u8 {
+    let _ = eprint!(rt; "check_zone:");
+    for line in text.strip_prefix("error: ").unwrap_or(text).lines() {
+        if line.is_empty() {
+            break;
+        }
+        let _ = eprint!(rt; " {}", line.trim());
+    }
+    let _ = eprintln!(rt; "");
+    2
+}
+
+/// Prints the help or the version that the arguments ask for, or what is wrong with them, and gives the status.
+fn print_of_arguments<R: Print + Eprint + Alloc<A = Global>>(rt: &R, error: &Error) -> u8 {
     if matches!(error.kind(), ErrorKind::OutOfMemory) {
         return tell(rt, Fault::Memory);
     }
+    if error.exit_code() != 0 {
+        return match format!(in rt.alloc(); "{error}") {
+            Ok(text) => tell_of_arguments(rt, &text),
+            Err(_) => tell(rt, Fault::Memory),
+        };
+    }
     match error.print(rt) {
-        Ok(()) if error.exit_code() == 0 => 0,
-        Ok(()) => 2,
+        Ok(()) => 0,
         Err(_) => tell(rt, Fault::Write),
     }
 }

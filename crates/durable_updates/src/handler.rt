@@ -12,13 +12,14 @@ ghost use Rattle.hickory_base.specs.zone_store.ZoneAnswers.{MemoryZone};
 ghost use Rattle.journal.specs.Read.{contents};
 ghost use Rattle.journal.specs.Settled.{IsAtRest};
 
-use crate::batches::{UpdateAnswer, update_all_durably};
+use crate::batches::{UpdateAnswer, copied_sets, update_all_durably};
 use crate::compaction::{CompactError, Spare, compact_into};
 use crate::following::recall_followed;
 use crate::recovering::{TwoRecovered, recover_two};
 use crate::redoing::{RedoError, redo};
 use crate::snapshots::recall;
 use hickory_base::server::Request;
+use hickory_base::zone_store::{InMemoryZoneHandler, ZoneHandler};
 use hickory_store::updates::{UpdatableZoneHandler, Verifier};
 use journal::{Journal, RecoverError, generation, recover};
 use sqlite_disk::Disk;
@@ -36,6 +37,18 @@ pub enum OpenError {
     /// Its entries were not done again.
     #[error("{0}")]
     Entries(RedoError),
+}
+
+/// A copy of a zone in memory, which shares its records.
+fn copied_zone<V: Verifier>(
+    zone: &UpdatableZoneHandler<V>,
+) -> Result<InMemoryZoneHandler, AllocError>
+    ensures { IfOk result (λ copy. copy ≡ zone.now.zone) }
+{
+    let sets = copied_sets(zone)?;
+    let zone = zone.in_memory();
+    let origin = zone.origin().clone()?;
+    Ok(InMemoryZoneHandler::new(origin, sets, zone.zone_type(), zone.axfr_policy()))
 }
 
 /// A zone that takes dynamic updates (RFC 2136) as `UpdatableZoneHandler` does by the RFCs. Each is in a journal on the
@@ -135,30 +148,41 @@ impl<V: Verifier, D: Disk + Drop> JournalledZone<V, D> {
     /// Opens the journal that two files are in turns as `open_two` does, and gives what the last of the requests have
     /// changed: of those behind the snapshot, and of so many last ones as a history has room for. That is of as many
     /// records of transfers as `History::limit_of` tells, of the zone that the first of the requests was done to and
-    /// `least`, twice.
+    /// `least`, twice. It also takes memory for a copy of the zone's keys.
+    ///
+    /// # Errors
+    ///
+    /// After an error the zone is handed back as it was, and the files as `open_two` hands them back.
     pub fn open_followed(
         alloc: Global,
         zone: UpdatableZoneHandler<V>,
         first: D,
         second: D,
         least: usize,
-    ) -> Result<(JournalledZone<V, D>, History), (OpenError, D, D)>
+    ) -> Result<(JournalledZone<V, D>, History), (OpenError, UpdatableZoneHandler<V>, D, D)>
         requires usable { IsTrue (D.is_usable first) × IsTrue (D.is_usable second) }
         // After a restart, what is read is what is on the disk.
         requires restarted { Only (D.seen first) (D.may_leave first) × Only (D.seen second) (D.may_leave second) }
         ensures followed { IfOk result (λ opened. AreFollowed D.Disk first second zone.zone opened.1 opened.0.zone) }
         ensures others { IfOk result (λ opened. opened.0 ≡ record zone { zone = opened.0.zone }) }
-        ensures err { IfErr result (λ e. IsHandedBack D.Disk first e.1 × IsHandedBack D.Disk second e.2) }
-        ensures refused { IfErr result (λ e. IsTrue (is_no_journal e.0) → IsRefused D.Disk first e.1 ⊎
-            IsRefused D.Disk second e.2) }
+        ensures kept { IfErr result (λ e. e.1 ≡ zone) }
+        ensures err { IfErr result (λ e. IsHandedBack D.Disk first e.2 × IsHandedBack D.Disk second e.3) }
+        ensures refused { IfErr result (λ e. IsTrue (is_no_journal e.0) → IsRefused D.Disk first e.2 ⊎
+            IsRefused D.Disk second e.3) }
     {
+        let Ok(before) = copied_zone(&zone) else {
+            return Err((OpenError::Entries(RedoError::Memory), zone, first, second));
+        };
         let mut zone = zone;
         let mut first = first;
         let mut second = second;
         match recover_two(alloc, &mut first, &mut second) {
-            Err(error) => Err((OpenError::Journal(error), first, second)),
+            Err(error) => Err((OpenError::Journal(error), zone, first, second)),
             Ok(found) => match recall_followed(&mut zone, alloc, found.entries(), least) {
-                Err(error) => Err((OpenError::Entries(error), first, second)),
+                Err(error) => {
+                    *zone.in_memory_mut() = before;
+                    Err((OpenError::Entries(error), zone, first, second))
+                }
                 Ok(history) => Ok((JournalledZone::of_two(zone, first, second, &found), history)),
             },
         }

@@ -1,15 +1,18 @@
 //! A zone with a journal that may hold updates, to have them written together.
 
-ghost use Rattle.std.specs.Prelude.{◌≡◌, ◌*◌, ◌-◌, ◌^◌, ◌++◌, ◌∷◌, [], OnErr, OnOk, false, max, min, not, option_copied, true};
+ghost use Rattle.std.specs.Prelude.{◌≡◌, ◌*◌, ◌-◌, ◌^◌, ◌++◌, ◌∷◌, [], IfErr, IfOk, IsTrue, OnErr, OnOk, false, max, min, not, option_copied, true, ◌⊎◌};
 ghost use Rattle.journal.specs.Read.{contents};
 ghost use Rattle.durable_updates.specs.Batches.{AnswersRead, bytes_of, if_accepted};
 ghost use Rattle.durable_updates.specs.DurableUpdates.{AnswersDurably};
 ghost use Rattle.durable_updates.specs.Holding.{AreFilesOf};
-ghost use Rattle.durable_updates.specs.Recorded.{IsDurable};
+ghost use Rattle.durable_updates.specs.OpenErrors.{is_no_journal};
+ghost use Rattle.durable_updates.specs.Recorded.{IsDurable, IsHandedBack, IsRefused};
+ghost use Rattle.durable_updates.specs.Versions.{AreFollowed};
+ghost use Rattle.sqlite_disk.specs.Disk.{Only};
 
 use crate::batches::{UpdateAnswer, write_held};
 use crate::compaction::{CompactError, Spare, compact_into, spare_done};
-use crate::handler::JournalledZone;
+use crate::handler::{JournalledZone, OpenError};
 use crate::updating::update_durably;
 use hickory_base::errors::UpdateFault;
 use hickory_base::server::Request;
@@ -20,6 +23,7 @@ use journal::host_file::OwnedDisk;
 use sqlite_disk::Disk;
 use std::alloc::{AllocError, Global};
 use std::marker::Model;
+use zone_differences::History;
 
 /// How many bytes a journal has for each record set of its zone before it is long: some three times what a snapshot of
 /// sets of one short record takes. So a journal is about as long as its zone and twice that of updates, which is what
@@ -122,6 +126,55 @@ impl<V: Verifier, D: Disk + Drop> HoldingZone<V, D> {
             spare,
             held: None,
             last: 0,
+        }
+    }
+
+    /// Opens the journal in two files as [`JournalledZone::open_followed`] does, in place of the one that the zone had.
+    /// Gives the zone with this journal, which holds no updates, and what its last requests have changed.
+    ///
+    /// # Errors
+    ///
+    /// After an error the zone is as it was, with the journal that it had, and the files are handed back.
+    pub fn reopened(
+        self,
+        alloc: Global,
+        first: D,
+        second: D,
+        least: usize,
+    ) -> (HoldingZone<V, D>, Result<History, (OpenError, D, D)>)
+        requires usable { IsTrue (D.is_usable first) × IsTrue (D.is_usable second) }
+        // After a restart, what is read is what is on the disk.
+        requires restarted { Only (D.seen first) (D.may_leave first) × Only (D.seen second) (D.may_leave second) }
+        ensures followed { IfOk result.1 (λ history. AreFollowed D.Disk first second self.updatable.zone history
+            result.0.updatable.zone) }
+        ensures others { OnOk result.1 (result.0 ≡ record {
+          updatable = record self.updatable { zone = result.0.updatable.zone };
+          holds = false;
+        }) }
+        ensures kept { OnErr result.1 (result.0 ≡ self) }
+        ensures err { IfErr result.1 (λ e. IsHandedBack D.Disk first e.1 × IsHandedBack D.Disk second e.2) }
+        ensures refused { IfErr result.1 (λ e. IsTrue (is_no_journal e.0) → IsRefused D.Disk first e.1 ⊎
+            IsRefused D.Disk second e.2) }
+    {
+        let HoldingZone {
+            zone,
+            journal,
+            spare,
+            held,
+            last,
+        } = self;
+        match JournalledZone::open_followed(alloc, zone, first, second, least) {
+            Ok((zone, history)) => (HoldingZone::new(zone), Ok(history)),
+            Err((error, zone, first, second)) => {
+                let zone = HoldingZone {
+                    zone,
+                    journal,
+                    spare,
+                    held,
+                    last,
+                };
+                (zone, Err((error, first, second)))
+            }
         }
     }
 

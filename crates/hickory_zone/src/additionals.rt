@@ -115,7 +115,7 @@ fn name_from(alloc: Global, start: Option<usize>, bytes: &[u8]) -> Result<Option
 }
 
 /// The host that a record names, if it names one.
-fn host(alloc: Global, q: &Record) -> Result<Option<Name>, AllocError>
+pub(crate) fn host(alloc: Global, q: &Record) -> Result<Option<Name>, AllocError>
     ensures { IfOk result (λ found. found ≡ host_in q.now.rdata) }
 {
     match &q.rdata {

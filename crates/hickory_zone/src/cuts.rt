@@ -10,10 +10,10 @@ ghost use Rattle.hickory_base.specs.zone_store.ZoneSets.{sets_of, shared_sets};
 ghost use Rattle.hickory_zone.specs.representation.Features.{AreFeatures};
 ghost use Rattle.hickory_zone.specs.representation.FoundRecords.{CutAbove};
 ghost use Rattle.hickory_zone.specs.representation.Indexes.{IsSearched};
-ghost use Rattle.hickory_zone.specs.representation.TopCuts.{AreCutsOf, AreGlueOf, IsAt, IsBelowLast, IsPassedOver, IsPut};
+ghost use Rattle.hickory_zone.specs.representation.TopCuts.{AreCutsOf, AreEach, AreGlueOf, AreHostsOf, IsAt, IsBelowLast, IsHostPlace, IsPassedOver, IsPut};
 ghost use Rattle.hickory_zone.specs.Zones.{AreOwners, Zone};
 
-use crate::additionals::{Source, additionals};
+use crate::additionals::{Source, additionals, host};
 use crate::features::Features;
 use crate::index::{SharedSet, place_of, word_of};
 use hickory_base::zone_store::RecordSet;
@@ -65,6 +65,47 @@ fn is_top_cut(origin: &LowerName, cuts: &[SharedSet], key: &RrKey) -> bool
     ensures other { result ≡ false → IsPassedOver origin.now cuts.now key.now }
 {
     key.record_type == RecordType::NS && !key.name.zone_of(origin) && !is_below_last(cuts, key)
+}
+
+/// The place among these sets, which are of the zone of this origin, of the name of the host that a record names, if it
+/// names one in the zone.
+fn host_place(
+    alloc: Global,
+    origin: &LowerName,
+    sets: &[SharedSet],
+    words: &[u64],
+    q: &Record,
+) -> Result<Option<usize>, AllocError>
+    requires { IsSearched origin.now sets.now words.now }
+    ensures { IfOk result (IsHostPlace origin.now sets.now q.now) }
+{
+    let Some(name) = host(alloc, q)? else {
+        return Ok(None);
+    };
+    let name = LowerName::new(alloc, &name)?;
+    if !origin.zone_of(&name) {
+        return Ok(None);
+    }
+    let first = RrKey::new(name, RecordType::new(0));
+    Ok(Some(place_of(origin, sets, words, &first)))
+}
+
+/// The places among these sets of the names of the hosts that records name.
+fn host_places(
+    alloc: Global,
+    origin: &LowerName,
+    sets: &[SharedSet],
+    words: &[u64],
+    servers: &[Record],
+) -> Result<Vec<Option<usize>>, AllocError>
+    requires { IsSearched origin.now sets.now words.now }
+    ensures { IfOk result (λ places. AreEach (IsHostPlace origin.now sets.now) servers.now places.items) }
+{
+    let mut places = Vec::with_capacity(alloc, servers.len())?;
+    for q in servers {
+        places.push(host_place(alloc, origin, sets, words, q)?)?;
+    }
+    Ok(places)
 }
 
 impl Cuts {
@@ -155,5 +196,23 @@ impl Cuts {
             glue.push(additionals(alloc, origin, sets, Source::Glue, &[], servers, has)?)?;
         }
         Ok(glue)
+    }
+
+    /// The places among these sets, which are of the zone of this origin, of the names of the servers at each cut.
+    pub(crate) fn hosts(
+        &self,
+        alloc: Global,
+        origin: &LowerName,
+        sets: &[SharedSet],
+        words: &[u64],
+    ) -> Result<Vec<Vec<Option<usize>>>, AllocError>
+        requires { IsSearched origin.now sets.now words.now }
+        ensures { IfOk result (λ hosts. AreHostsOf origin.now sets.now self.now.entries.items hosts.items) }
+    {
+        let mut hosts = Vec::new(alloc);
+        for (_, servers) in self.entries.as_slice() {
+            hosts.push(host_places(alloc, origin, sets, words, servers.records())?)?;
+        }
+        Ok(hosts)
     }
 }

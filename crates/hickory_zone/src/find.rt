@@ -10,9 +10,8 @@ ghost use Rattle.std.specs.Prelude.{IfSome, IsSome, drop, length};
 ghost use Rattle.wire_names.specs.rr.domain.DomainName.{AreLabels, IsWire, wire_form};
 ghost use Rattle.hickory_zone.specs.representation.Features.{AreFeatures, IsOfLength};
 ghost use Rattle.hickory_zone.specs.representation.FoundRecords.{first_or};
-ghost use Rattle.hickory_zone.specs.representation.Indexes.{IsIndexOf, IsUnmarked};
-ghost use Rattle.std.specs.List.{Contains};
-ghost use Rattle.hickory_zone.specs.representation.KeysBeside.{AreSetsAmong, Entry, SharedMap, StandsBehind};
+ghost use Rattle.hickory_zone.specs.representation.Indexes.{AreStill, IsClearAt, IsIndexOf, IsUnmarked};
+ghost use Rattle.hickory_zone.specs.representation.KeysBeside.{Entry, SharedMap, StandsBehind};
 ghost use Rattle.std.specs.Option.{unwrap_or};
 ghost use Rattle.wire_names.specs.rr.domain.DomainName.{DomainName};
 ghost use Rattle.hickory_zone.specs.representation.FoundRecords.{CutAbove, CutAt, WildFound, may_be_cut, name_of, outcome_of, IsAbove, IsBare, IsEncloser, IsWildAmong, Tells, missing_outcome, wild_or_referral};
@@ -22,7 +21,7 @@ ghost use Rattle.wire_messages.specs.Numbers.{type_a, type_aaaa, type_any, type_
 
 use crate::cuts::Cut;
 use crate::features::{Features, has_length};
-use crate::index::{Index, SharedSet};
+use crate::index::{Before, Index, is_clear};
 use crate::redirections::{Redirection, redirection_from, redirection_of};
 use crate::wildcards::{is_wildcard_beside, wildcard_below};
 use hickory_base::zone_store::RecordSet;
@@ -42,9 +41,9 @@ pub(crate) struct Node<'z> {
     pub(crate) servers: Option<&'z [Record]>,
     /// The first key from the name's first on.
     pub(crate) behind: Option<&'z RrKey>,
-    /// The sets before the name's first key, where an index tells them, and else none.
-    pub(crate) before: &'z [SharedSet],
-    /// Whether no update has changed this since.
+    /// The sets before the name's first key, if an index has them, and else none.
+    pub(crate) before: Before<'z>,
+    /// Whether no update has changed this since, except what is before.
     pub(crate) is_current: bool,
 }
 
@@ -84,7 +83,7 @@ fn node_at<'z>(
     ensures alias { option_copied result.alias ≡ rrset (sets_of sets.now) first.now.name type_cname }
     ensures servers { option_copied result.servers ≡ rrset (sets_of sets.now) first.now.name type_ns }
     ensures behind { StandsBehind sets.now first.now (option_copied result.behind) }
-    ensures before { result.before.now ≡ [] }
+    ensures before { result.before.sets.now ≡ [] }
 {
     let mut wanted = None;
     let mut alias = None;
@@ -105,7 +104,10 @@ fn node_at<'z>(
         alias,
         servers,
         behind,
-        before: &[],
+        before: Before {
+            sets: &[],
+            marks: &[],
+        },
         is_current: true,
     }
 }
@@ -122,8 +124,8 @@ fn node_in<'z>(index: &'z Index, first: &RrKey, record_type: RecordType) -> Node
     ensures behind { (origin : DomainName) (sets : SharedMap) → IsIndexOf origin (sets_of sets) index.now →
         AreSetsInOrder (sets_of sets) → result.is_current ≡ true
         → StandsBehind sets first.now (option_copied result.behind) }
-    ensures before { (e : Entry) → Contains result.before.now e →
-        (index.now.is_whole ≡ true) × Contains index.now.entries e }
+    ensures before { (place : ℕ) (e : Entry) → IsClearAt result.before.sets.now result.before.marks.now place e →
+        IsClearAt index.now.entries index.now.marks place e }
     ensures current { result.is_current ≡ true → IsUnmarked index.now first.now }
 {
     let mut wanted = None;
@@ -167,7 +169,7 @@ fn node_by<'z>(
     ensures alias { option_copied result.alias ≡ rrset (sets_of sets.now) first.now.name type_cname }
     ensures servers { option_copied result.servers ≡ rrset (sets_of sets.now) first.now.name type_ns }
     ensures behind { StandsBehind sets.now first.now (option_copied result.behind) }
-    ensures before { AreSetsAmong result.before.now (sets_of sets.now) }
+    ensures before { AreStill result.before (sets_of sets.now) }
 {
     if let Some(index) = index {
         // That keys are in order is known of a map whose length was read.
@@ -180,43 +182,21 @@ fn node_by<'z>(
     node_at(sets, first, record_type)
 }
 
-/// Whether a name owns what referrals are made of.
-#[derive(Clone, Copy)]
-pub(crate) struct Delegating {
-    /// An RRset of type NS.
-    pub(crate) servers: bool,
-    /// One of type A or AAAA.
-    pub(crate) addresses: bool,
-}
-
-/// Whether the key's name owns what referrals are made of, by the sets of a zone.
-pub(crate) fn delegation_at(sets: &BTreeMap<RrKey, Rc<RecordSet>>, first: &RrKey) -> Delegating
+/// Whether the key's name owns NS records, by the sets of a zone.
+pub(crate) fn has_servers_at(sets: &BTreeMap<RrKey, Rc<RecordSet>>, first: &RrKey) -> bool
     requires { first.now.record_type ≡ 0 }
-    ensures servers { result.servers ≡ false → rrset (sets_of sets.now) first.now.name type_ns ≡ None }
-    ensures four { result.addresses ≡ false → rrset (sets_of sets.now) first.now.name type_a ≡ None }
-    ensures six { result.addresses ≡ false → rrset (sets_of sets.now) first.now.name type_aaaa ≡ None }
+    ensures { result ≡ false → rrset (sets_of sets.now) first.now.name type_ns ≡ None }
 {
-    let addresses = addresses_at(sets, first);
-    Delegating {
-        servers: node_at(sets, first, RecordType::NS).servers.is_some(),
-        addresses: addresses.four.is_some() || addresses.six.is_some(),
-    }
+    node_at(sets, first, RecordType::NS).servers.is_some()
 }
 
-/// Whether the key's name, which is in the zone, owns what referrals are made of, by the zone's index.
-pub(crate) fn delegation_in(index: &Index, first: &RrKey) -> Delegating
+/// Whether the key's name, which is in the zone, owns NS records, by the zone's index.
+pub(crate) fn has_servers_in(index: &Index, first: &RrKey) -> bool
     requires least { first.now.record_type ≡ 0 }
     requires within { Encloses index.now.apex.labels first.now.name.labels }
-    ensures servers { result.servers ≡ false → rrset (shared_sets index.now.entries) first.now.name type_ns ≡ None }
-    ensures four { result.addresses ≡ false → rrset (shared_sets index.now.entries) first.now.name type_a ≡ None }
-    ensures six { result.addresses ≡ false → rrset (shared_sets index.now.entries) first.now.name type_aaaa ≡ None }
+    ensures { result ≡ false → rrset (shared_sets index.now.entries) first.now.name type_ns ≡ None }
 {
-    let four = node_in(index, first, RecordType::A);
-    let six = node_in(index, first, RecordType::AAAA);
-    Delegating {
-        servers: four.servers.is_some(),
-        addresses: four.wanted.is_some() || six.wanted.is_some(),
-    }
+    node_in(index, first, RecordType::NS).servers.is_some()
 }
 
 /// The addresses that a name owns.
@@ -440,7 +420,8 @@ fn cut_above_in<'z>(index: &'z Index, origin: &LowerName, first: &RrKey) -> Opti
     requires index { index.now.apex ≡ origin.now }
     ensures cut { CutAbove (record { origin = origin.now; sets = shared_sets index.now.entries }) first.now.name
         (servers_at result) }
-    ensures glue { IfSome result (HasGlue (record { origin = origin.now; sets = shared_sets index.now.entries })) }
+    ensures glue { (sets : Sets) → IsIndexOf origin.now sets index.now →
+        IfSome result (HasGlue (record { origin = origin.now; sets = sets })) }
 {
     if parent_len(&first.name) <= origin.as_name().as_wire().len() {
         return None;
@@ -484,14 +465,7 @@ pub(crate) fn cut_above<'z>(
         IfSome found (HasGlue (record { origin = origin.now; sets = sets_of sets.now }))) }
 {
     match index {
-        Some(index) if index.has_servers() => {
-            let cut = cut_above_in(index, origin, first);
-            if index.has_addresses() {
-                Ok(cut)
-            } else {
-                Ok(unknown_glue(servers_at(cut)))
-            }
-        }
+        Some(index) if index.has_servers() => Ok(cut_above_in(index, origin, first)),
         _ => {
             let servers = climb_to_cut(alloc, sets, origin, &first.name, has)?;
             Ok(unknown_glue(servers))
@@ -822,26 +796,25 @@ fn is_bare(name: &LowerName, behind: Option<&RrKey>, has: Features) -> bool
 /// How many of the sets before a name are looked at for a wildcard's, of which most own no more.
 const MOST_WILD: usize = 4;
 
-/// The last of these sets, as many as are looked at.
-fn last_of(before: &[SharedSet]) -> &[SharedSet]
-    ensures { (e : Entry) → Contains result.now e → Contains before.now e }
-{
-    &before[before.len().saturating_sub(MOST_WILD)..]
-}
-
-/// The records of a type of the wildcard right below the name above this one, where they are among the last of these
-/// sets.
+/// The records of a type of the wildcard right below the name above this one, if they are among the last of these sets,
+/// and no update may have changed them.
 fn wild_among<'z>(
     name: &LowerName,
     record_type: RecordType,
-    before: &'z [SharedSet],
+    before: Before<'z>,
 ) -> Option<&'z [Record]>
-    ensures { IfSome result (λ records. IsWildAmong before.now name.now record_type records.now) }
+    ensures { IfSome result (λ records. IsWildAmong before.entry name.now record_type records.now) }
 {
-    for (key, set) in last_of(before) {
-        if key.record_type == record_type && is_wildcard_beside(&key.name, name) {
+    let mut place = before.sets.len().saturating_sub(MOST_WILD);
+    while place < before.sets.len() {
+        let (key, set) = &before.sets[place];
+        if key.record_type == record_type
+            && is_wildcard_beside(&key.name, name)
+            && is_clear(before.marks, place)
+        {
             return Some(set.records());
         }
+        place += 1;
     }
     None
 }
@@ -852,11 +825,11 @@ fn wild_among<'z>(
 fn wild_at_once<'z>(
     name: &LowerName,
     record_type: RecordType,
-    before: &'z [SharedSet],
+    before: Before<'z>,
     has: Features,
 ) -> Option<&'z [Record]>
     ensures { IfSome result (λ records. (has.dnames ≡ false) × ¬ (record_type ≡ type_any) ×
-        IsWildAmong before.now name.now record_type records.now) }
+        IsWildAmong before.entry name.now record_type records.now) }
 {
     if has.dnames || is_any(record_type) {
         return None;
@@ -934,7 +907,7 @@ fn look_above<'z>(
     first: &RrKey,
     record_type: RecordType,
     behind: Option<&'z RrKey>,
-    before: &'z [SharedSet],
+    before: Before<'z>,
     above: Option<&'z [Record]>,
     has: Features,
 ) -> Result<Found<'z>, AllocError>
@@ -943,7 +916,7 @@ fn look_above<'z>(
     requires owners { AreOwners origin.now (sets_of sets.now) }
     requires within { Encloses origin.now.labels first.now.name.labels }
     requires behind { StandsBehind sets.now first.now (option_copied behind) }
-    requires before { AreSetsAmong before.now (sets_of sets.now) }
+    requires before { AreStill before (sets_of sets.now) }
     requires missing { ¬ (Exists (sets_of sets.now) first.now.name) }
     requires above { CutAbove (record { origin = origin.now; sets = sets_of sets.now }) first.now.name
         (option_copied above) }

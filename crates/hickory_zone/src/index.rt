@@ -1,9 +1,10 @@
 //! The sets of a zone in an order that is searched by numbers, and what updates have changed since.
 
-ghost use Rattle.std.specs.Prelude.{◌≡◌, ◌<◌, ◌≤◌, ◌∷◌, IfOk, IfSome, IsTrue, Some, drop, false, length, true};
-ghost use Rattle.std.specs.List.{Contains, slice_get};
+ghost use Rattle.std.specs.Prelude.{◌≡◌, ◌<◌, ◌≤◌, ◌+◌, ◌∷◌, ℕ, IfOk, IfSome, IsTrue, Some, drop, false, length, true};
+ghost use Rattle.std.specs.List.{AllByRecursion, slice_get};
 ghost use Rattle.std.specs.List.Sorted.{IsStrictlySortedBy};
 ghost use Rattle.std.specs.Map.{keys_of};
+ghost use Rattle.std.specs.Option.{option_copied};
 ghost use Rattle.std.specs.Ordering.{is_lt};
 ghost use Rattle.std.specs.BTreeMap.Range.{entries_between};
 ghost use Rattle.std.specs.declared.ops.Bound.TheVariants.{Included, Unbounded};
@@ -13,14 +14,14 @@ ghost use Rattle.wire_messages.specs.rr.RrKeys.{key_cmp};
 ghost use Rattle.hickory_base.specs.zone_store.ZoneSets.{AreSetsInOrder, sets_of, shared_sets};
 ghost use Rattle.hickory_zone.specs.representation.Features.{AreFeatures};
 ghost use Rattle.hickory_zone.specs.representation.FoundRecords.{CutAbove};
-ghost use Rattle.hickory_zone.specs.representation.Indexes.{AreWordsOf, IsIndexBut, IsIndexOf, IsPlaceOf, IsSearched, IsUnmarked, IsWordOf, KeepsOthers, Marks};
+ghost use Rattle.hickory_zone.specs.representation.Indexes.{AreMarked, AreWordsOf, IsClearAt, IsIndexBut, IsIndexOf, IsPlaceOf, IsSearched, IsUnmarked, IsWordOf, KeepsOthers, Marks};
 ghost use Rattle.hickory_zone.specs.representation.KeysBeside.{Entry};
-ghost use Rattle.hickory_zone.specs.representation.TopCuts.{HasGlue, servers_at};
+ghost use Rattle.hickory_zone.specs.representation.TopCuts.{HasGlue, IsClearGlue, IsClearHost, servers_at};
 ghost use Rattle.hickory_zone.specs.Zones.{AreOwners, Records, Sets};
 
 use crate::cuts::{Cut, Cuts};
 use crate::features::Features;
-use crate::find::{delegation_at, delegation_in};
+use crate::find::{has_servers_at, has_servers_in};
 use hickory_base::zone_store::RecordSet;
 use hickory_wire::{LowerName, Record, RecordType, RrKey};
 use std::alloc::{AllocError, Global};
@@ -48,23 +49,22 @@ pub(crate) struct Index {
     cuts: Cuts,
     // The addresses of the servers at each cut, as a referral has them.
     glue: Vec<Vec<Record>>,
-    // Whether a name may have changed, by the place of its first key: among the entries, or where it would be.
+    // The places of the names of these servers, if they are in the zone.
+    hosts: Vec<Vec<Option<usize>>>,
+    // Whether a name may have changed, by the place of its first key, among the entries or where it would be, and by
+    // the places of its entries.
     marks: Vec<bool>,
     // How many names were marked.
     changes: usize,
-    // Whether the zone still has the entries, and no others.
-    is_whole: bool,
     // Whether each name still has the NS records that it has among the entries, or none.
     has_servers: bool,
-    // Whether each name still has the addresses that it has among the entries, or none.
-    has_addresses: bool,
 }
 
 impl Model for Index {
     ghost use Rattle.std.specs.Prelude.{◌≡◌, ◌+◌, length};
     ghost use Rattle.hickory_base.specs.zone_store.ZoneSets.{shared_sets};
     ghost use Rattle.hickory_zone.specs.representation.Indexes.{IndexedSets, IsSearched};
-    ghost use Rattle.hickory_zone.specs.representation.TopCuts.{AreCutsOf, AreGlueOf};
+    ghost use Rattle.hickory_zone.specs.representation.TopCuts.{AreCutsOf, AreGlueOf, AreHostsOf};
 
     ghost Value = { IndexedSets };
 
@@ -72,22 +72,30 @@ impl Model for Index {
       apex = index.apex;
       entries = index.entries.items;
       marks = index.marks.items;
-      is_whole = index.is_whole;
       has_servers = index.has_servers;
-      has_addresses = index.has_addresses;
     } };
 
     ghost invariant = { λ index. IsSearched index.apex index.entries.items index.words.items
         × AreCutsOf (record { origin = index.apex; sets = shared_sets index.entries.items }) index.cuts
         × AreGlueOf (record { origin = index.apex; sets = shared_sets index.entries.items }) index.cuts.entries.items
-        index.glue.items × (length index.marks.items ≡ length index.entries.items + 1) };
+        index.glue.items × AreHostsOf index.apex index.entries.items index.cuts.entries.items index.hosts.items
+        × (length index.marks.items ≡ length index.entries.items + 1) };
+}
+
+/// The sets of an index before a key.
+#[derive(Clone, Copy)]
+pub(crate) struct Before<'z> {
+    /// The sets, as they were when the index was made.
+    pub(crate) sets: &'z [SharedSet],
+    /// Whether the name of the set at the same place may have changed since.
+    pub(crate) marks: &'z [bool],
 }
 
 /// The sets of an index on both sides of a key.
 #[derive(Clone, Copy)]
 pub(crate) struct Sides<'z> {
-    /// The sets before the key, as long as no update has changed the zone, and else none.
-    pub(crate) before: &'z [SharedSet],
+    /// The sets before the key.
+    pub(crate) before: Before<'z>,
     /// The sets from the key on.
     pub(crate) from: &'z [SharedSet],
     /// Whether the key's place has no mark.
@@ -150,8 +158,80 @@ pub(crate) fn place_of(
     low
 }
 
-/// Whether names have what they had of a kind of records, where one more may have changed: it had none of the kind
-/// before, and has none after.
+/// Whether there is no mark at a place.
+pub(crate) fn is_clear(marks: &[bool], place: usize) -> bool
+    ensures { IsTrue result → slice_get marks.now place ≡ Some false }
+{
+    match marks.get(place) {
+        Some(mark) => !*mark,
+        None => false,
+    }
+}
+
+/// Whether there is no mark at the place of a host, if it has one.
+fn is_clear_host(marks: &[bool], place: Option<usize>) -> bool
+    ensures { IsTrue result → IsClearHost marks.now place }
+{
+    match place {
+        Some(place) => is_clear(marks, place),
+        None => true,
+    }
+}
+
+/// Whether this is so of all hosts.
+fn are_clear_hosts(marks: &[bool], places: &[Option<usize>]) -> bool
+    ensures { IsTrue result → AllByRecursion (IsClearHost marks.now) places.now }
+{
+    for place in places {
+        if !is_clear_host(marks, *place) {
+            return false;
+        }
+    }
+    true
+}
+
+/// The addresses of the servers at the cut of this place, unless an update may have changed one.
+fn clear_glue<'z>(
+    marks: &[bool],
+    hosts: &[Vec<Option<usize>>],
+    glue: &'z [Vec<Record>],
+    place: usize,
+) -> Option<&'z [Record]>
+    ensures { IfSome (option_copied result) (IsClearGlue marks.now hosts.now glue.now place) }
+{
+    let Some(places) = hosts.get(place) else {
+        return None;
+    };
+    let Some(glue) = glue.get(place) else {
+        return None;
+    };
+    if are_clear_hosts(marks, places.as_slice()) {
+        Some(glue.as_slice())
+    } else {
+        None
+    }
+}
+
+/// Marks a place, and from there on those of the sets of the key's name.
+fn mark_name(entries: &[SharedSet], marks: &mut Vec<bool>, place: usize, first: &RrKey)
+    requires within { place ≤ length entries.now }
+    requires marks { length marks.old.items ≡ length entries.now + 1 }
+    requires least { first.now.record_type ≡ 0 }
+    requires ordered { IsStrictlySortedBy key_cmp (keys_of entries.now) }
+    requires place { IsPlaceOf first.now entries.now place }
+    ensures len { length marks.new.items ≡ length marks.old.items }
+    ensures is { AreMarked first.now entries.now place marks.old.items marks.new.items }
+{
+    marks[place] = true;
+    let mut next = place;
+    while next < entries.len() && first.name == entries[next].0.name {
+        marks[next] = true;
+        next += 1;
+    }
+}
+
+/// Whether names have the NS records that they had, if one more may have changed: it had none before, and has none
+/// after.
 fn is_still(so_far: bool, before: bool, after: bool) -> bool
     ensures { IsTrue result → (so_far ≡ true) × (before ≡ false) × (after ≡ false) }
 {
@@ -182,17 +262,17 @@ impl Index {
         marks.push(false)?;
         let cuts = Cuts::new(alloc, origin, entries.as_slice())?;
         let glue = cuts.glue(alloc, origin, sets, has)?;
+        let hosts = cuts.hosts(alloc, origin, entries.as_slice(), words.as_slice())?;
         Ok(Index {
             apex: origin.clone()?,
             words,
             entries,
             cuts,
             glue,
+            hosts,
             marks,
             changes: 0,
-            is_whole: true,
             has_servers: true,
-            has_addresses: true,
         })
     }
 
@@ -202,14 +282,6 @@ impl Index {
         ensures { result ≡ self.now.has_servers }
     {
         self.has_servers
-    }
-
-    /// Whether the zone still has the addresses that the index has, and no others.
-    #[inline(always)]
-    pub(crate) fn has_addresses(&self) -> bool
-        ensures { result ≡ self.now.has_addresses }
-    {
-        self.has_addresses
     }
 
     /// Whether so many names were marked that the index should be made again: more than 64 and than a sixteenth of the
@@ -222,8 +294,8 @@ impl Index {
     #[inline(always)]
     pub(crate) fn beside_key(&self, first: &RrKey) -> Sides<'_>
         requires { Encloses self.now.apex.labels first.now.name.labels }
-        ensures before { (e : Entry) → Contains result.before.now e →
-            (self.now.is_whole ≡ true) × Contains self.now.entries e }
+        ensures before { (place : ℕ) (e : Entry) → IsClearAt result.before.sets.now result.before.marks.now place e →
+            IsClearAt self.now.entries self.now.marks place e }
         ensures unmarked { result.is_unmarked ≡ true → IsUnmarked self.now first.now }
         ensures is { result.from.now ≡ entries_between key_cmp (Included first.now) Unbounded self.now.entries }
         ensures ordered { IsStrictlySortedBy key_cmp (keys_of self.now.entries) }
@@ -232,10 +304,9 @@ impl Index {
         let place = place_of(&self.apex, entries, self.words.as_slice(), first);
         let marks = self.marks.as_slice();
         Sides {
-            before: if self.is_whole {
-                &entries[..place]
-            } else {
-                &[]
+            before: Before {
+                sets: &entries[..place],
+                marks,
             },
             from: &entries[place..],
             is_unmarked: !marks[place],
@@ -251,30 +322,34 @@ impl Index {
         requires within { Encloses self.now.apex.labels first.now.name.labels }
         ensures cut { CutAbove (record { origin = self.now.apex; sets = shared_sets self.now.entries }) first.now.name
             (servers_at result) }
-        ensures glue { IfSome result (HasGlue
-            (record { origin = self.now.apex; sets = shared_sets self.now.entries })) }
+        ensures glue { (origin : DomainName) (sets : Sets) → IsIndexOf origin sets self.now →
+            IfSome result (HasGlue (record { origin = origin; sets = sets })) }
     {
         let Some(top) = self.cuts.above(&self.apex, first) else {
             return None;
         };
-        let glue = match self.glue.as_slice().get(top.place) {
-            Some(glue) => Some(glue.as_slice()),
-            None => None,
-        };
+        let glue = clear_glue(
+            self.marks.as_slice(),
+            self.hosts.as_slice(),
+            self.glue.as_slice(),
+            top.place,
+        );
         Some(Cut {
             servers: top.servers,
             glue,
         })
     }
-    /// Marks the place of a key, whose name is at the apex or below it.
+
+    /// Marks the place of a key, whose name is at the apex or below it, and the sets of that name. No type is below that
+    /// of the key.
     fn mark(&mut self, first: &RrKey)
+        requires least { first.now.record_type ≡ 0 }
         requires within { Encloses self.old.apex.labels first.now.name.labels }
         ensures { Marks first.now self.old self.new }
     {
         let entries = self.entries.as_slice();
         let place = place_of(&self.apex, entries, self.words.as_slice(), first);
-        self.marks[place] = true;
-        self.is_whole = false;
+        mark_name(entries, &mut self.marks, place, first);
         self.changes = self.changes.saturating_add(1);
     }
 
@@ -297,10 +372,9 @@ impl Index {
             return false;
         }
         let first = RrKey::new(name, RecordType::new(0));
-        let before = delegation_in(self, &first);
-        let after = delegation_at(sets, &first);
-        self.has_servers = is_still(self.has_servers, before.servers, after.servers);
-        self.has_addresses = is_still(self.has_addresses, before.addresses, after.addresses);
+        let before = has_servers_in(self, &first);
+        let after = has_servers_at(sets, &first);
+        self.has_servers = is_still(self.has_servers, before, after);
         self.mark(&first);
         true
     }

@@ -5,10 +5,13 @@ use Rattle.std.specs.List.{AllByRecursion, AllZip, after_first, before_first, fi
 use Rattle.std.specs.Option.{option_to_list}
 use Rattle.std.specs.Str.Parse.{IsNumeral, digits_value, without_leading_plus}
 use Rattle.server_limits.specs.NetworkTexts.{IsNetworkText}
+use Rattle.serve_options.specs.declared.arguments.ArgumentFault.{ArgumentFault}
+use Rattle.serve_options.specs.declared.arguments.ArgumentFault.TheVariants.{Value}
 use Rattle.serve_options.specs.declared.arguments.Mode.{Mode}
 use Rattle.serve_options.specs.declared.arguments.Mode.TheVariants.{Lines, Tcp, Udp}
 use Rattle.serve_options.specs.declared.arguments.Settings.{Settings}
 use Rattle.serve_options.specs.declared.arguments.UpdateArgument.{UpdateArgument}
+use Rattle.serve_options.specs.declared.arguments.Wanted.{Wanted}
 use Rattle.serve_options.specs.declared.arguments.ZoneArgument.{ZoneArgument}
 
 -- Options in their order, each with what stands behind it.
@@ -47,6 +50,11 @@ pub record IsUpdateText (text : List ℕ) (update : UpdateArgument) : Type 0 whe
 -- a number from 512 to 65535 in decimal digits, before which a plus may stand
 abbrev pub IsBound : List ℕ → ℕ → Type 0
 IsBound text bound = IsNumeral 10 (without_leading_plus text) × (digits_value 10 (without_leading_plus text) ≡ bound) × (512 ≤ bound) × (bound < 2 ^ 16)
+
+-- The fault names the option, and says that the word after it is not what is wanted.
+abbrev pub IsValueFault : List ℕ → List ℕ → Wanted → ArgumentFault → Type 0
+IsValueFault name text what (Value option word wanted) = (option.now ≡ name) × (word.now ≡ text) × (wanted ≡ what)
+IsValueFault name text what other = ⊥
 
 -- the word for a mode
 abbrev pub mode_word : Mode → List ℕ

@@ -1,14 +1,15 @@
 //! What the program is started with.
 
-ghost use Rattle.std.specs.Prelude.{◌≡◌, [], codes, IfOk, IfSome, IsNone, OnOk, map, string_bytes};
+ghost use Rattle.std.specs.Prelude.{◌≡◌, [], codes, IfErr, IfOk, IfSome, IsNone, OnOk, map, string_bytes};
 ghost use Rattle.server_limits.specs.NetworkTexts.{IsNetworkText};
-ghost use Rattle.serve_options.specs.Arguments.{ArgumentsSay, IsBound, IsOfOneProcess, IsUpdateText, IsZoneText, OptionsSay, Takes, mode_word};
+ghost use Rattle.serve_options.specs.declared.arguments.Wanted.TheVariants as wanted;
+ghost use Rattle.serve_options.specs.Arguments.{ArgumentsSay, IsBound, IsOfOneProcess, IsUpdateText, IsValueFault, IsZoneText, OptionsSay, Takes, mode_word};
 
-use server_limits::access_control::{IpNet, IpNetTextError};
+use server_limits::access_control::IpNet;
 use std::alloc::{AllocError, AllocFailed, Global};
 use thiserror::Error;
 
-/// The option behind which nothing stands.
+/// The option without a value.
 const NO_GROUPS: &str = "--no-groups";
 
 /// How requests come in and replies go out.
@@ -16,13 +17,13 @@ const NO_GROUPS: &str = "--no-groups";
 pub enum Mode {
     /// The input is one datagram.
     Udp,
-    /// The input is messages behind their lengths (RFC 1035 section 4.2.2).
+    /// The input is messages, each after its length (RFC 1035 section 4.2.2).
     Tcp,
     /// The input is lines, each with where a message comes from and its bytes.
     Lines,
 }
 
-/// What stands behind an option.
+/// What the value of an option is.
 #[derive(Clone, Copy, Debug, PartialEq, Eq, Error)]
 pub enum Wanted {
     /// The name of a zone and its file.
@@ -31,14 +32,14 @@ pub enum Wanted {
     /// A file.
     #[error("FILE")]
     File,
-    /// A network.
-    #[error("NET")]
+    /// An address, or a network as 192.0.2.0/24.
+    #[error("an address or a network")]
     Network,
     /// A text.
     #[error("TEXT")]
     Text,
-    /// A number.
-    #[error("N")]
+    /// How many bytes a reply over UDP may have. A reply of 512 is always allowed (RFC 1035 section 4.2.1).
+    #[error("a number from 512 to 65535")]
     Number,
     /// The name of a key.
     #[error("NAME")]
@@ -48,94 +49,70 @@ pub enum Wanted {
     Rule,
 }
 
-/// Why the arguments are not taken. A `place` tells which argument it is; the first is 1.
+/// Why the arguments are not taken.
 #[derive(Clone, Copy, Debug, PartialEq, Eq, Error)]
 pub enum ArgumentFault<'a> {
-    /// A word stands where an option or the mode is wanted, and is neither.
-    #[error("argument {place}: '{word}' is no option and no mode")]
+    /// A word is neither an option nor a mode.
+    #[error("{word:?} is not an option or a mode; zone_serve --help lists both")]
     Unknown {
-        /// Which argument it is.
-        place: usize,
         /// The word.
         word: &'a str,
     },
-    /// An option stands last.
-    #[error("argument {place}: {option} has no {wanted}")]
-    Alone {
-        /// Which argument it is.
-        place: usize,
+    /// An option and its value are one word.
+    #[error("\"{option}=..\" is not an option; write {option} {value}")]
+    Joined {
         /// The option.
         option: &'a str,
-        /// What is wanted behind it.
+        /// The value.
+        value: &'a str,
+    },
+    /// An option is the last word.
+    #[error("{option} has no value; expected {wanted}")]
+    NoValue {
+        /// The option.
+        option: &'a str,
+        /// What its value is.
+        wanted: Wanted,
+    },
+    /// The value of an option is something else.
+    #[error("{option}: {word:?} is not {wanted}")]
+    Value {
+        /// The option.
+        option: &'a str,
+        /// The word after it.
+        word: &'a str,
+        /// What its value is.
         wanted: Wanted,
     },
     /// An option that is taken once is there twice.
-    #[error("argument {place}: {option} is there already")]
+    #[error("{option} is given twice")]
     Twice {
-        /// Which argument it is.
-        place: usize,
         /// The option.
         option: &'a str,
     },
     /// `--version` or `--help` is not the only argument.
-    #[error("argument {place}: {word} stands alone")]
-    NotAlone {
-        /// Which argument it is.
-        place: usize,
+    #[error("{word} must be the only argument")]
+    NotOnly {
         /// The word.
         word: &'a str,
     },
-    /// An option stands behind the mode.
-    #[error("argument {place}: options stand before the mode")]
-    OptionBehind {
-        /// Which argument it is.
-        place: usize,
-    },
-    /// A word that is no option stands behind the mode.
-    #[error("argument {place}: '{word}' stands behind the mode")]
-    WordBehind {
-        /// Which argument it is.
-        place: usize,
-        /// The word.
+    /// The mode is not the last word.
+    #[error("{word:?} comes after the mode, which must be the last argument")]
+    AfterMode {
+        /// The word after the mode.
         word: &'a str,
     },
     /// There is no mode.
-    #[error("no mode: udp, tcp or lines")]
+    #[error("the mode is missing; expected udp, tcp or lines")]
     NoMode,
-    /// What stands behind `--zone` or `--journal` has no `=`.
-    #[error("argument {place}: {option} wants NAME=FILE")]
-    NoFile {
-        /// Which argument it is.
-        place: usize,
-        /// The option.
+    /// A journal is asked for in `udp` or `tcp`.
+    #[error("--journal needs the mode lines: in udp and tcp, several processes would write to the journal")]
+    JournalMode,
+    /// A key is named, and there is no file of keys.
+    #[error("{option} needs --keys")]
+    NoKeys {
+        /// The option that names it.
         option: &'a str,
-    },
-    /// What stands behind `--allow-update` has no `=`.
-    #[error("argument {place}: --allow-update wants ZONE=KEY [zone|subdomain NAME|name NAME|self] [TYPE..]")]
-    NoRule {
-        /// Which argument it is.
-        place: usize,
-    },
-    /// A network is wanted behind `--allow`, `--deny`, `--allow-transfer` and `--deny-transfer`.
-    #[error("argument {place}: {fault}")]
-    Network {
-        /// Which argument it is.
-        place: usize,
-        /// What is wrong with it.
-        fault: IpNetTextError,
-    },
-    /// What stands behind `--max-udp` is no number of bytes that a reply over UDP may always have (RFC 1035 section
-    /// 4.2.1).
-    #[error("argument {place}: not a number from 512 to 65535")]
-    MaxUdp {
-        /// Which argument it is.
-        place: usize,
-    },
-    /// A journal is asked for in `udp` or `tcp`, where several processes would write to it.
-    #[error("argument {place}: --journal wants the mode lines: of udp and tcp several processes would write to it")]
-    JournalMode {
-        /// Which argument it is.
-        place: usize,
     },
     /// Memory was refused.
     #[error("no memory")]
@@ -221,8 +198,8 @@ fn mode_named(name: &str) -> Option<Mode>
     }
 }
 
-/// What stands behind the option of this name.
-fn wanted_behind(option: &str) -> Option<Wanted> {
+/// What the value of the option of this name is.
+fn wanted_after(option: &str) -> Option<Wanted> {
     match option {
         "--zone" | "--journal" => Some(Wanted::Zone),
         "--blocklist" | "--keys" => Some(Wanted::File),
@@ -235,72 +212,93 @@ fn wanted_behind(option: &str) -> Option<Wanted> {
     }
 }
 
-/// What is wrong with a word in the place of an option, where nothing that an option takes stands behind it.
-fn fault_of<'a>(word: &'a str, place: usize) -> ArgumentFault<'a> {
+/// What is wrong with a word that is neither an option nor a mode.
+fn unknown<'a>(word: &'a str) -> ArgumentFault<'a> {
+    match word.split_once('=') {
+        Some((option, value)) if wanted_after(option).is_some() => {
+            ArgumentFault::Joined { option, value }
+        }
+        _ => ArgumentFault::Unknown { word },
+    }
+}
+
+/// What is wrong with a word that is not an option with its value after it.
+fn fault_of<'a>(word: &'a str) -> ArgumentFault<'a> {
     match word {
-        "--version" | "--help" | "-h" => ArgumentFault::NotAlone { place, word },
+        "--version" | "--help" | "-h" => ArgumentFault::NotOnly { word },
         NO_GROUPS => ArgumentFault::NoMode,
-        option => match wanted_behind(option) {
-            Some(wanted) => ArgumentFault::Alone {
-                place,
-                option,
-                wanted,
-            },
-            None => ArgumentFault::Unknown { place, word },
+        option => match wanted_after(option) {
+            Some(wanted) => ArgumentFault::NoValue { option, wanted },
+            None => unknown(word),
         },
     }
 }
 
-/// What is wrong with a word behind the mode.
-fn behind_mode<'a>(word: &'a str, place: usize) -> ArgumentFault<'a> {
-    if word.starts_with('-') {
-        ArgumentFault::OptionBehind { place }
-    } else {
-        ArgumentFault::WordBehind { place, word }
-    }
-}
-
-/// The network that an argument spells.
-fn network<'a>(text: &str, place: usize) -> Result<IpNet, ArgumentFault<'a>>
-    ensures { IfOk result (IsNetworkText text.now) }
+/// The network that the value of an option spells.
+fn network<'a>(option: &'a str, text: &'a str) -> Result<IpNet, ArgumentFault<'a>>
+    ensures spelled { IfOk result (IsNetworkText text.now) }
+    ensures refused { IfErr result (IsValueFault option.now text.now wanted.Network) }
 {
     match text.parse::<IpNet>() {
         Ok(network) => Ok(network),
-        Err(fault) => Err(ArgumentFault::Network { place, fault }),
+        Err(_) => Err(ArgumentFault::Value {
+            option,
+            word: text,
+            wanted: Wanted::Network,
+        }),
     }
 }
 
-/// The bound on replies over UDP that an argument spells.
-fn max_udp<'a>(text: &str, place: usize) -> Result<u16, ArgumentFault<'a>>
-    ensures { IfOk result (IsBound text.now) }
+/// The bound on replies over UDP that the value of an option spells.
+fn max_udp<'a>(option: &'a str, text: &'a str) -> Result<u16, ArgumentFault<'a>>
+    ensures spelled { IfOk result (IsBound text.now) }
+    ensures refused { IfErr result (IsValueFault option.now text.now wanted.Number) }
 {
     match text.parse::<u16>() {
         Ok(size) if size >= 512 => Ok(size),
-        _ => Err(ArgumentFault::MaxUdp { place }),
+        _ => Err(ArgumentFault::Value {
+            option,
+            word: text,
+            wanted: Wanted::Number,
+        }),
     }
 }
 
-/// The zone that an argument behind an option tells, with its file.
+/// The zone and the file of the value of an option, which is the argument at this place.
 fn zone_argument<'a>(
     option: &'a str,
     text: &'a str,
     place: usize,
 ) -> Result<ZoneArgument<'a>, ArgumentFault<'a>>
-    ensures { IfOk result (IsZoneText text.now) }
+    ensures spelled { IfOk result (IsZoneText text.now) }
+    ensures refused { IfErr result (IsValueFault option.now text.now wanted.Zone) }
 {
     match text.split_once('=') {
-        Some((name, file)) => Ok(ZoneArgument { name, file, place }),
-        None => Err(ArgumentFault::NoFile { place, option }),
+        Some((name, file)) if !file.is_empty() => Ok(ZoneArgument { name, file, place }),
+        _ => Err(ArgumentFault::Value {
+            option,
+            word: text,
+            wanted: Wanted::Zone,
+        }),
     }
 }
 
-/// The rule that an argument tells, with its zone.
-fn update_argument<'a>(text: &'a str, place: usize) -> Result<UpdateArgument<'a>, ArgumentFault<'a>>
-    ensures { IfOk result (IsUpdateText text.now) }
+/// The zone and the rule of the value of an option, which is the argument at this place.
+fn update_argument<'a>(
+    option: &'a str,
+    text: &'a str,
+    place: usize,
+) -> Result<UpdateArgument<'a>, ArgumentFault<'a>>
+    ensures spelled { IfOk result (IsUpdateText text.now) }
+    ensures refused { IfErr result (IsValueFault option.now text.now wanted.Rule) }
 {
     match text.split_once('=') {
         Some((zone, rule)) => Ok(UpdateArgument { zone, rule, place }),
-        None => Err(ArgumentFault::NoRule { place }),
+        None => Err(ArgumentFault::Value {
+            option,
+            word: text,
+            wanted: Wanted::Rule,
+        }),
     }
 }
 
@@ -327,19 +325,19 @@ impl<'a> Settings<'a> {
         }
     }
 
-    /// Takes `--no-groups` at this place.
-    fn put_no_groups(&mut self, place: usize) -> Result<(), ArgumentFault<'a>>
+    /// Takes `--no-groups`.
+    fn put_no_groups(&mut self) -> Result<(), ArgumentFault<'a>>
         ensures { OnOk result (Takes (codes "--no-groups") [] self.old self.new) }
     {
         if self.no_groups {
             let option = NO_GROUPS;
-            return Err(ArgumentFault::Twice { place, option });
+            return Err(ArgumentFault::Twice { option });
         }
         self.no_groups = true;
         Ok(())
     }
 
-    /// Takes the option of updates, or of journals, at this place and what stands behind it.
+    /// Takes the option of updates, or of journals, at this place, with its value.
     fn put_update(
         &mut self,
         option: &'a str,
@@ -348,16 +346,16 @@ impl<'a> Settings<'a> {
     ) -> Result<(), ArgumentFault<'a>>
         ensures { OnOk result (Takes option.now text.now self.old self.new) }
     {
-        let behind = place.saturating_add(1);
+        let after = place.saturating_add(1);
         match option {
-            "--allow-update" => self.updates.push(update_argument(text, behind)?)?,
-            "--journal" => self.journals.push(zone_argument(option, text, behind)?)?,
-            _ => return Err(fault_of(option, place)),
+            "--allow-update" => self.updates.push(update_argument(option, text, after)?)?,
+            "--journal" => self.journals.push(zone_argument(option, text, after)?)?,
+            _ => return Err(fault_of(option)),
         }
         Ok(())
     }
 
-    /// Takes the option of keys, or of updates, at this place and what stands behind it.
+    /// Takes the option of keys, or of updates, at this place, with its value.
     fn put_keys(
         &mut self,
         option: &'a str,
@@ -369,13 +367,13 @@ impl<'a> Settings<'a> {
         match option {
             "--keys" if self.keys.is_none() => self.keys = Some(text),
             "--allow-transfer-key" => { self.transfer_keys.push((text, place.saturating_add(1)))? }
-            "--keys" => return Err(ArgumentFault::Twice { place, option }),
+            "--keys" => return Err(ArgumentFault::Twice { option }),
             _ => return self.put_update(option, text, place),
         }
         Ok(())
     }
 
-    /// Takes the option of networks, or another one, at this place and what stands behind it.
+    /// Takes the option of networks, or another one, at this place, with its value.
     fn put_network(
         &mut self,
         option: &'a str,
@@ -384,46 +382,53 @@ impl<'a> Settings<'a> {
     ) -> Result<(), ArgumentFault<'a>>
         ensures { OnOk result (Takes option.now text.now self.old self.new) }
     {
-        let behind = place.saturating_add(1);
         match option {
-            "--allow" => self.allowed.push(network(text, behind)?)?,
-            "--deny" => self.denied.push(network(text, behind)?)?,
-            "--allow-transfer" => self.transfers_allowed.push(network(text, behind)?)?,
-            "--deny-transfer" => self.transfers_denied.push(network(text, behind)?)?,
+            "--allow" => self.allowed.push(network(option, text)?)?,
+            "--deny" => self.denied.push(network(option, text)?)?,
+            "--allow-transfer" => self.transfers_allowed.push(network(option, text)?)?,
+            "--deny-transfer" => self.transfers_denied.push(network(option, text)?)?,
             _ => return self.put_keys(option, text, place),
         }
         Ok(())
     }
 
-    /// Takes the option at this place and what stands behind it.
+    /// Takes the option at this place, with its value.
     fn put(&mut self, option: &'a str, text: &'a str, place: usize) -> Result<(), ArgumentFault<'a>>
         ensures { OnOk result (Takes option.now text.now self.old self.new) }
     {
-        let behind = place.saturating_add(1);
+        let after = place.saturating_add(1);
         match option {
-            "--zone" => self.zones.push(zone_argument(option, text, behind)?)?,
+            "--zone" => self.zones.push(zone_argument(option, text, after)?)?,
             "--blocklist" => self.blocklists.push(text)?,
-            "--nsid" if self.identifier.is_none() => self.identifier = Some((text, behind)),
-            "--max-udp" if self.max_udp.is_none() => self.max_udp = Some(max_udp(text, behind)?),
-            "--nsid" | "--max-udp" => return Err(ArgumentFault::Twice { place, option }),
+            "--nsid" if self.identifier.is_none() => self.identifier = Some((text, after)),
+            "--max-udp" if self.max_udp.is_none() => self.max_udp = Some(max_udp(option, text)?),
+            "--nsid" | "--max-udp" => return Err(ArgumentFault::Twice { option }),
             _ => return self.put_network(option, text, place),
         }
         Ok(())
     }
 
-    /// What is wrong with the journals for the mode, if anything is.
+    /// The option that names a key without a file of keys, if one does.
+    fn keys_fault(&self) -> Option<ArgumentFault<'a>> {
+        let option = match (self.keys, self.updates.first(), self.transfer_keys.first()) {
+            (None, Some(_), _) => "--allow-update",
+            (None, None, Some(_)) => "--allow-transfer-key",
+            _ => return None,
+        };
+        Some(ArgumentFault::NoKeys { option })
+    }
+
+    /// What is wrong with the options together, or with the journals for the mode, if anything is.
     fn journal_fault(&self) -> Option<ArgumentFault<'a>>
         ensures { IsNone result → IsOfOneProcess self.now }
     {
         match (self.mode, self.journals.first()) {
-            (Mode::Lines, _) | (_, None) => None,
-            (_, Some(journal)) => Some(ArgumentFault::JournalMode {
-                place: journal.place,
-            }),
+            (Mode::Lines, _) | (_, None) => self.keys_fault(),
+            (_, Some(_)) => Some(ArgumentFault::JournalMode),
         }
     }
 
-    /// What arguments say: options, each with what stands behind it, and then the mode.
+    /// What arguments say: options, each with its value, and then the mode.
     pub fn read(alloc: Global, arguments: &'a [String]) -> Result<Settings<'a>, ArgumentFault<'a>>
         ensures { IfOk result (ArgumentsSay (map string_bytes arguments.now)) }
     {
@@ -432,10 +437,11 @@ impl<'a> Settings<'a> {
         let mut place = 1usize;
         while let [option, text, others @ ..] = rest {
             if let Some(_) = mode_named(option.as_str()) {
-                return Err(behind_mode(text.as_str(), place.saturating_add(1)));
+                let word = text.as_str();
+                return Err(ArgumentFault::AfterMode { word });
             }
             if option.as_str() == NO_GROUPS {
-                settings.put_no_groups(place)?;
+                settings.put_no_groups()?;
                 place = place.saturating_add(1);
                 rest = &rest[1..];
             } else {
@@ -449,7 +455,7 @@ impl<'a> Settings<'a> {
         };
         match mode_named(mode.as_str()) {
             Some(mode) => settings.mode = mode,
-            None => return Err(fault_of(mode.as_str(), place)),
+            None => return Err(fault_of(mode.as_str())),
         }
         match settings.journal_fault() {
             None => Ok(settings),

@@ -1,6 +1,6 @@
 -- The keys of a server, from the bytes of their file and by the names that an operator writes, and the networks of all
 -- addresses.
-use Rattle.std.specs.Prelude.{◌≡◌, ◌≢◌, ℕ, IsTrue, List, [], ◌∷◌, is_some, true}
+use Rattle.std.specs.Prelude.{◌≡◌, ◌≢◌, ◌==◌, if◌then◌else◌, ℕ, IsTrue, List, [], ◌∷◌, is_some, true}
 use Rattle.server_limits.specs.Access.{Network}
 use Rattle.server_limits.specs.declared.access_control.Family.{Family}
 use Rattle.server_limits.specs.declared.access_control.Family.TheVariants.{Ipv4, Ipv6}
@@ -29,3 +29,12 @@ network_of_all family = record { family = family; prefix_length = 0; prefix = 0 
 
 abbrev pub all_networks : List Network
 all_networks = network_of_all Ipv4 ∷ network_of_all Ipv6 ∷ []
+
+-- half of the addresses of a family: those whose first bit is this
+abbrev pub half_of : Family → ℕ → Network
+half_of family bit = record { family = family; prefix_length = 1; prefix = bit }
+
+-- An allowed network as rules of access have it. Two halves stand for all addresses of a family: of two networks that
+-- are as long the denied one decides, and all addresses are denied.
+abbrev pub parts_of : Network → List Network
+parts_of network = if network.prefix_length == 0 then half_of network.family 0 ∷ half_of network.family 1 ∷ [] else network ∷ []

@@ -1,5 +1,5 @@
-//! The keys of a server, whoever owns its files: from the bytes of a file, by their names, and who may have transfers
-//! where keys may.
+//! What the programs share of keys and networks, whoever owns their files: keys from the bytes of a file and by their
+//! names, and the networks of rules of access.
 #![tactic(auto)]
 
 pub mod files;

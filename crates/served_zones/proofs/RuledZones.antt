@@ -1,6 +1,7 @@
 -- Zones that have rules, and how the catalog finds them.
-use Rattle.std.proofs.Common.{◌≡◌, ◌↔◌, Bool, true, false, not, [], ◌∷◌, Option, Some, None, option_map, refl, sym, ◌∙◌, subst, arith}
-use Rattle.std.specs.Prelude.{IsNone, IsTrue, is_some, remove, slice_index_or}
+use Rattle.std.proofs.Common.{◌≡◌, ◌⊎◌, inl, inr, ◌↔◌, Bool, true, false, not, [], ◌∷◌, Option, Some, None, Result, Ok, Err, OnErr, OnOk, option_map, refl, sym, ◌∙◌, subst, arith}
+use Rattle.std.specs.Prelude.{IsNone, IsTrue, is_some}
+use Rattle.either.specs.declared.Either.TheVariants.{Left, Right}
 use Rattle.wire_names.specs.rr.domain.DomainName.{DomainName}
 use Rattle.wire_names.specs.rr.domain.NameOrder.{SameName}
 use Rattle.hickory_catalog.specs.zones.Find.{Finds}
@@ -8,8 +9,10 @@ use Rattle.hickory_catalog.specs.zones.Kept.{KeptAt}
 use Rattle.hickory_catalog.specs.zones.Zones.{AreInOrder, HasZone, ZoneChains}
 use Rattle.hickory_catalog.proofs.lemmas.zones.Nearest.{MayBy, no_longer, same_length}
 use Rattle.hickory_catalog.proofs.lemmas.zones.OneAnswer.{one_answer}
-use Rattle.served_zones.specs.Journals.{HasRules, TakesUpdates}
+use Rattle.sqlite_disk.specs.declared.Disk.{Ghosts as DiskGhosts}
+use Rattle.served_zones.specs.Journals.{HandlerIsStopped, HandlerOpens, HasRules, TakesUpdates}
 use Rattle.served_zones.specs.ServedZones.{Chain, ServedHandler}
+use Rattle.served_zones.specs.ZoneChanges.{IsFirst}
 
 -- Whether there was nothing before.
 pub is_fresh : {A B : Type 0} (f : A → B) (old : Option A) (fresh : Bool) → is_some old ≡ not fresh → IsTrue fresh ↔ IsNone (option_map f old)
@@ -17,11 +20,6 @@ is_fresh f None true is = (λ yes. refl, λ none. refl)
 is_fresh f None false is = absurd cc
 is_fresh f (Some value) true is = absurd cc
 is_fresh f (Some value) false is = (λ yes. absurd cc, λ none. absurd cc)
-
--- A chain whose first handler has rules is that handler and the others.
-pub removed_first : (chain : Chain) (first : ServedHandler) → HasRules chain → first ≡ slice_index_or chain 0 first → chain ≡ first ∷ remove chain 0
-removed_first [] first has is = absurd has
-removed_first (handler ∷ rest) first has is = subst (λ (h : ServedHandler). h ∷ rest ≡ first ∷ rest) is refl
 
 may_answer : (b : Bool) (apex name : DomainName) → name.is_fqdn ≡ b → SameName apex name → MayBy b apex name
 may_answer true apex name is same = (same.marks ∙ is, record { front = []; ends = sym same.labels })
@@ -53,3 +51,23 @@ found_has zones name chain ordered found takes =
     let one : Some takes.1 ≡ Some chain = one_answer zones name (Some takes.1) (Some chain) ordered takes.2 found in
     let same : takes.1 ≡ chain = cc in
     subst HasRules same takes.3
+
+-- ---- a zone whose journal is opened has rules
+
+module _ {D : Type 0} (disks : DiskGhosts D) (first second : D) where
+  opens : (before after : ServedHandler) (rest : Chain) → HandlerOpens disks first second before after → HasRules (before ∷ rest)
+  opens (Left zone) (Left new) rest is = is.0
+  opens (Left zone) (Right list) rest is = absurd is
+  opens (Right list) new rest is = absurd is
+
+  stops : (before after : ServedHandler) (rest : Chain) → HandlerIsStopped disks first second before after → HasRules (before ∷ rest)
+  stops (Left zone) (Left new) rest is = is.0
+  stops (Left zone) (Right list) rest is = absurd is
+  stops (Right list) new rest is = absurd is
+
+  -- A chain without rules stays, whatever the answer.
+  pub only_ruled : {T E : Type 0} (result : Result T E) (old new : Chain) → OnOk result (IsFirst (HandlerOpens disks first second) old new)
+      → OnErr result ((new ≡ old) ⊎ IsFirst (HandlerIsStopped disks first second) old new) → ¬ (HasRules old) → new ≡ old
+  only_ruled (Ok opened) old new is err none = absurd (none (subst HasRules (sym is.was) (opens is.before is.after is.rest is.changes)))
+  only_ruled (Err e) old new is (inl same) none = same
+  only_ruled (Err e) old new is (inr stopped) none = absurd (none (subst HasRules (sym stopped.was) (stops stopped.before stopped.after stopped.rest stopped.changes)))

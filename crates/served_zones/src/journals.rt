@@ -1,10 +1,12 @@
 //! Opening the journals of zones that are served.
 
-ghost use Rattle.std.specs.Prelude.{◌≡◌, ◌↔◌, IfOk, IsTrue, OnOk};
+ghost use Rattle.std.specs.Prelude.{◌≡◌, ◌⊎◌, ◌↔◌, IfOk, IsTrue, OnErr, OnOk};
 ghost use Rattle.durable_updates.specs.OpenErrors.{is_no_journal};
 ghost use Rattle.sqlite_disk.specs.Disk.{Only};
 ghost use Rattle.served_zones.specs.JournalFaults.{says_no_journal};
-ghost use Rattle.served_zones.specs.Journals.{HasJournal, HasRules, OpensJournal, TakesUpdates};
+ghost use Rattle.served_zones.specs.Journals.{HandlerIsStopped, HandlerOpens, HasRules, OpensJournal, StopsAtOpening, TakesUpdates};
+ghost use Rattle.served_zones.specs.ZoneChanges.{IsFirst};
+ghost use Rattle.zones.specs.Journals.{IsOpened, IsStopped};
 
 use crate::handler::{Handler, Zones};
 use durable_updates::{CompactError, OpenError, RedoError, SnapshotError};
@@ -15,6 +17,7 @@ use journal::{JournalError, RecoverError};
 use sqlite_disk::Disk;
 use std::alloc::{AllocError, AllocFailed, Global};
 use thiserror::Error;
+use tsig::TsigVerifier;
 use zones::Zone;
 
 /// What was found as the journal of a zone was opened.
@@ -48,7 +51,7 @@ pub enum JournalFault {
     #[error("no zone of this name takes updates")]
     NoUpdates,
     /// One of its files is not a journal, and is left as it is.
-    #[error("it is no journal")]
+    #[error("not a journal")]
     NotAJournal,
     /// The disk failed when its files were read or recovered.
     #[error("the disk failed")]
@@ -57,7 +60,7 @@ pub enum JournalFault {
     #[error("an entry is no update of this zone")]
     Damaged,
     /// The zone does not read back as it is, so it cannot be kept.
-    #[error("the zone does not read back as it is")]
+    #[error("a snapshot does not read back as the zone")]
     NoSnapshot,
     /// An allocation failed.
     #[error("no memory")]
@@ -142,7 +145,62 @@ fn has_rules<D: Disk + Drop>(chain: &[Handler<D>]) -> bool
     }
 }
 
-/// Opens the journal of the first handler of a chain, if that is a zone that has rules. After an error the zone is gone.
+/// Opens the journal of a zone, and compacts it if it is to be. If that fails since an allocation failed, or since the
+/// zone does not read back, the zone is as its journal says, and takes no updates. After any other error it is as it
+/// was.
+fn open_in_zone<D: Disk + Drop>(
+    alloc: Global,
+    zone: &mut Zone<TsigVerifier, D>,
+    first: D,
+    second: D,
+) -> Result<Opened, JournalFault>
+    requires usable { IsTrue (D.is_usable first) × IsTrue (D.is_usable second) }
+    requires restarted { Only (D.seen first) (D.may_leave first) × Only (D.seen second) (D.may_leave second) }
+    ensures opened { OnOk result (IsOpened D.Disk first second zone.old zone.new) }
+    ensures err { OnErr result ((zone.new ≡ zone.old) ⊎ IsStopped D.Disk first second zone.old zone.new) }
+{
+    let file = zone.serial();
+    if let Err((error, _, _)) = zone.open(alloc, first, second) {
+        return Err(fault_of(&error));
+    }
+    match compacted(alloc, zone) {
+        Ok(takes_updates) => Ok(Opened {
+            file,
+            journal: zone.serial(),
+            takes_updates,
+        }),
+        Err(fault) => {
+            zone.stop_updates(alloc);
+            Err(fault)
+        }
+    }
+}
+
+/// Opens the journal of a handler, if that is a zone that has rules.
+fn open_in_handler<D: Disk + Drop>(
+    alloc: Global,
+    handler: &mut Handler<D>,
+    first: D,
+    second: D,
+) -> Result<Opened, JournalFault>
+    requires usable { IsTrue (D.is_usable first) × IsTrue (D.is_usable second) }
+    requires restarted { Only (D.seen first) (D.may_leave first) × Only (D.seen second) (D.may_leave second) }
+    ensures opened { OnOk result (HandlerOpens D.Disk first second handler.old handler.new) }
+    ensures err { OnErr result ((handler.new ≡ handler.old) ⊎
+        HandlerIsStopped D.Disk first second handler.old handler.new) }
+{
+    match handler {
+        Either::Left(zone) => {
+            if zone.policy().is_empty() {
+                return Err(JournalFault::NoUpdates);
+            }
+            open_in_zone(alloc, zone, first, second)
+        }
+        Either::Right(_) => Err(JournalFault::NoUpdates),
+    }
+}
+
+/// Opens the journal of the first handler of a chain, if that is a zone that has rules.
 fn open_in_chain<D: Disk + Drop>(
     alloc: Global,
     chain: &mut Vec<Handler<D>>,
@@ -151,28 +209,14 @@ fn open_in_chain<D: Disk + Drop>(
 ) -> Result<Opened, JournalFault>
     requires usable { IsTrue (D.is_usable first) × IsTrue (D.is_usable second) }
     requires restarted { Only (D.seen first) (D.may_leave first) × Only (D.seen second) (D.may_leave second) }
-    ensures opened { OnOk result (HasJournal D.Disk first second chain.old.items chain.new.items) }
-    ensures refused { ¬ (HasRules chain.old.items) → chain.new.items ≡ chain.old.items }
+    ensures opened { OnOk result (IsFirst (HandlerOpens D.Disk first second) chain.old.items chain.new.items) }
+    ensures err { OnErr result ((chain.new.items ≡ chain.old.items) ⊎
+        IsFirst (HandlerIsStopped D.Disk first second) chain.old.items chain.new.items) }
 {
-    if !has_rules(chain) {
+    if chain.is_empty() {
         return Err(JournalFault::NoUpdates);
     }
-    let Either::Left(zone) = chain.remove(0) else {
-        return Err(JournalFault::NoUpdates);
-    };
-    let file = zone.serial();
-    let mut zone = match zone.open(alloc, first, second) {
-        Ok(zone) => zone,
-        Err((error, _, _)) => return Err(fault_of(&error)),
-    };
-    let takes_updates = compacted(alloc, &mut zone)?;
-    let journal = zone.serial();
-    chain.insert(0, Either::Left(zone))?;
-    Ok(Opened {
-        file,
-        journal,
-        takes_updates,
-    })
+    open_in_handler(alloc, &mut chain[0], first, second)
 }
 
 /// Opens the journal of the zone of this apex in two files by turns, as [`Zone::open`] does. The zone must have rules.
@@ -187,8 +231,10 @@ fn open_in_chain<D: Disk + Drop>(
 ///
 /// # Errors
 ///
-/// If there is no zone of this apex that has rules, the error is `JournalFault::NoUpdates`, and nothing changes. After
-/// any other error the zone is gone. If one of the files is not a journal, nothing is written to it.
+/// If there is no zone of this apex that has rules, the error is `JournalFault::NoUpdates`. After an error nothing
+/// changes, unless the journal is open, and was to be compacted, and an allocation failed or the zone does not read
+/// back: then the zone is as its journal says, and takes no updates. If one of the files is not a journal, nothing is
+/// written to it.
 pub fn open_journal<D: Disk + Drop>(
     alloc: Global,
     zones: &mut Zones<D>,
@@ -200,6 +246,8 @@ pub fn open_journal<D: Disk + Drop>(
     // After a restart, what is read is what is on the disk.
     requires restarted { Only (D.seen first) (D.may_leave first) × Only (D.seen second) (D.may_leave second) }
     ensures opened { OnOk result (OpensJournal D.Disk first second apex.now zones.old.zones zones.new.zones) }
+    ensures err { OnErr result ((zones.new.zones ≡ zones.old.zones) ⊎
+        StopsAtOpening D.Disk first second apex.now zones.old.zones zones.new.zones) }
     ensures refused { ¬ (TakesUpdates zones.old.zones apex.now) → zones.new ≡ zones.old }
     ensures others { zones.new ≡ record zones.old { zones = zones.new.zones } }
 {

@@ -1,5 +1,5 @@
 -- Journals of zones, in files of the caller's, and what the caller is to do to these.
-use Rattle.std.specs.Prelude.{◌≡◌, ◌-◌, ◌++◌, ◌∷◌, [], ℕ, List, Option, Some, None, cond, drop, length, min, nat_eq, take}
+use Rattle.std.specs.Prelude.{◌≡◌, ◌⊎◌, ◌-◌, ◌++◌, ◌∷◌, [], ℕ, List, Option, Some, None, cond, drop, length, min, nat_eq, take}
 use Rattle.std.specs.List.{slice_get}
 use Rattle.wire_names.specs.rr.domain.DomainName.{DomainName}
 use Rattle.wire_names.specs.rr.domain.NameOrder.{lower_name}
@@ -9,7 +9,7 @@ use Rattle.journal.specs.host_file.Calls.{HostCall}
 use Rattle.journal.specs.host_file.Calls.HostCall.{fdatasync, ftruncate, pwrite}
 use Rattle.journal.specs.host_file.FileState.{FileState, of_bytes, owed}
 use Rattle.journal.specs.contracts.host_file.file.HostFileDisk.TheImpl.{ghosts}
-use Rattle.served_zones.specs.Journals.{OpensJournal}
+use Rattle.served_zones.specs.Journals.{OpensJournal, StopsAtOpening}
 use Rattle.served_zones.specs.Operations.{AreFilesAt, Stops}
 use Rattle.served_zones.specs.ServedZones.{IsApexText, ServedHandler}
 use Rattle.server.specs.declared.journals.FileOperation.{FileOperation}
@@ -25,6 +25,12 @@ pub record IsOpened (text first second : List ℕ) (old new : ZoneChains ServedH
   pub spelled : IsApexText text apex
   pub opens : OpensJournal host_disks (of_bytes 0 first) (of_bytes 1 second) (lower_name apex) old new
   pub last : journals_new ≡ journals_old ++ lower_name apex ∷ []
+
+-- The journal of the zone of this name, in files 0 and 1 that held these bytes, was not opened. No zone changed, or the
+-- journal could not be compacted: then the zone is as it says, and takes no updates.
+abbrev pub StaysUnopened : List ℕ → List ℕ → List ℕ → ZoneChains ServedHandler → ZoneChains ServedHandler → Type 0
+StaysUnopened text first second old new =
+    (new ≡ old) ⊎ ((apex : DomainName) × IsApexText text apex × StopsAtOpening host_disks (of_bytes 0 first) (of_bytes 1 second) (lower_name apex) old new)
 
 -- the calls that are owed to the file of this number, of the two files of a journal
 abbrev pub owed_to_second : Option FileState → ℕ → List HostCall

@@ -4,6 +4,8 @@ use Rattle.std.specs.Global.{Global}
 use Rattle.hickory_server.specs.declared.server.rules.Rules.{Rules}
 use Rattle.server_reports.specs.Counting.{no_counts}
 use Rattle.served_zones.specs.ServedZones.{Chain}
+use Rattle.served_keys.specs.ServedKeys.{all_networks}
+use Rattle.server_limits.specs.Access.{SameNetworks}
 use Rattle.tsig.specs.declared.keys.Key.{Key}
 use Rattle.wire_names.specs.rr.domain.DomainName.{DomainName}
 use Rattle.server.specs.Networks.{HasNoNetwork}
@@ -56,8 +58,8 @@ with_keys service keys = record service { answering = record service.answering {
 abbrev pub with_transfer_keys : Service → Vec DomainName Global → Service
 with_transfer_keys service names = record service { answering = record service.answering { server = record service.answering.server { transfer_keys = names } } }
 
--- A server before its first setting: it has no zones, keys, rules of updates and limits, everybody may use it and have
--- transfers, and a reply over UDP has at most 1232 bytes.
+-- A server before its first setting: it has no zones, keys, rules of updates and limits, everybody may use it, nobody may
+-- have transfers (RFC 5936 section 5), and a reply over UDP has at most 1232 bytes.
 pub record IsUnset (service : Service) : Type 0 where
   pub no_zones : zones_of service ≡ []
   pub no_identifier : service.answering.server.server.catalog.nsid ≡ None
@@ -65,7 +67,7 @@ pub record IsUnset (service : Service) : Type 0 where
   pub no_transfer_keys : service.answering.server.transfer_keys.items ≡ []
   pub none_denied : HasNoNetwork (rules_of service).access.deny
   pub none_allowed : HasNoNetwork (rules_of service).access.allow
-  pub no_transfer_denied : HasNoNetwork (rules_of service).transfers.deny
+  pub transfers_denied : SameNetworks all_networks (rules_of service).transfers.deny
   pub no_transfer_allowed : HasNoNetwork (rules_of service).transfers.allow
   pub max_udp : (rules_of service).max_udp ≡ 1232
   pub nothing_waits : waiting_in service.answering ≡ []

@@ -1,9 +1,9 @@
 //! Journals of zones, in files of the caller's: it hands over what they hold once, and does to them what is noted.
 
-ghost use Rattle.std.specs.Prelude.{◌≡◌, IfOk, OnOk, option_copied, option_map, true};
+ghost use Rattle.std.specs.Prelude.{◌≡◌, IfOk, OnErr, OnOk, option_copied, option_map, true};
 ghost use Rattle.std.specs.List.{slice_get};
 ghost use Rattle.journal.specs.host_file.Calls.{call_of, calls_of};
-ghost use Rattle.server.specs.Journals.{IsOpened, IsOwedTo, StopsAny, bytes_of, operation_of, owed_to, owed_to_second};
+ghost use Rattle.server.specs.Journals.{IsOpened, IsOwedTo, StaysUnopened, StopsAny, bytes_of, operation_of, owed_to, owed_to_second};
 ghost use Rattle.served_zones.specs.Holding.{AllBegin, AllSettle};
 
 use crate::service::Service;
@@ -85,7 +85,8 @@ impl Service {
     /// must have rules, and no journal yet. From then on each of its updates is noted for the files, file 0 and file 1
     /// of this journal, before it is answered. The journal is compacted if it is to be.
     ///
-    /// After an error the zone may be gone, so the server must be freed.
+    /// After an error the zone and the journals are as they were. If the journal is open, but was to be compacted and
+    /// could not be, the zone is as its journal says, and takes no updates.
     pub fn open_journal(
         &mut self,
         alloc: Global,
@@ -95,6 +96,8 @@ impl Service {
     ) -> Result<Opened, SettingFault>
         ensures ok { OnOk result (IsOpened name.now first.now second.now
             (zones_of self.old) (zones_of self.new) self.old.journals.items self.new.journals.items) }
+        ensures err { OnErr result (StaysUnopened name.now first.now second.now (zones_of self.old)
+            (zones_of self.new) × (self.new.journals.items ≡ self.old.journals.items)) }
         ensures others { self.new ≡ with_zones (record self.old { journals = self.new.journals }) (zones_of self.new) }
     {
         let spelled = zone_name(alloc, name)?;
@@ -104,6 +107,8 @@ impl Service {
         }
         let first = HostFile::new(alloc, 0, Vec::from_slice(alloc, first)?);
         let second = HostFile::new(alloc, 1, Vec::from_slice(alloc, second)?);
+        // So that the journal, once it is open, gets its number.
+        self.journals.reserve(1)?;
         let zones = &mut self.answering.server.server.catalog;
         let opened = open_journal(alloc, zones, &apex, first, second)?;
         self.journals.push(apex)?;

@@ -1,17 +1,20 @@
 //! The server that C holds: what it answers by, and how it is set.
 
 ghost use Rattle.std.specs.Prelude.{◌≡◌, ◌≤◌, ◌↔◌, ◌++◌, ◌∷◌, [], IfOk, IsOk, OnErr, OnOk, None, Some, option_map};
-ghost use Rattle.server_limits.specs.Access.{Inserts, SameNetworks};
+ghost use Rattle.server_limits.specs.Access.{SameNetworks};
 ghost use Rattle.served_keys.specs.ServedKeys.{AreKeysOfFile, IsKeyNamed, all_networks};
 ghost use Rattle.served_zones.specs.Grants.{IsGrantOf};
-ghost use Rattle.served_zones.specs.ServedZones.{IsLoadedAs, IsZoneOfFile};
+ghost use Rattle.hickory_catalog.specs.zones.Zones.{ChangesAt};
+ghost use Rattle.served_zones.specs.ServedZones.{IsApexText, IsLoadedAs, IsZoneOfFile};
 ghost use Rattle.served_zones.specs.declared.grants.Grant.{Grant as Granted};
-ghost use Rattle.server.specs.Networks.{HasNoNetwork, InsertsText};
+ghost use Rattle.server.specs.Networks.{AllowsText, HasNoNetwork, InsertsText};
 ghost use Rattle.wire_names.specs.rr.domain.DomainName.{DomainName};
+ghost use Rattle.wire_names.specs.rr.domain.NameOrder.{lower_name};
 
 use crate::answering::Answering;
 use crate::settings::{SettingFault, blocklist, key_name, network, zone_name, zone_rule};
 use crate::updates::see_zones;
+use hickory_server::access::AccessControl;
 use hickory_server::proto::{LowerName, Name};
 use hickory_server::server::{Rules, Server};
 use hickory_server::store::blocklist::BlocklistZoneHandler;
@@ -20,11 +23,12 @@ use hickory_server::zone_store::Either;
 use journal::host_file::HostFile;
 use name_lists::ListReport;
 use served_keys::files::keys_of_file;
-use served_keys::networks::with_all;
+use served_keys::networks::{parts, with_all};
 use served_zones::chains::{chain, put_chain};
 use served_zones::grants::{Grant, grant_updates};
 use served_zones::handler::{self, Zones};
 use served_zones::identifier::identifier;
+use served_zones::networks;
 use served_zones::zone_files::zone_of_file;
 use server_limits::RateLimits;
 use server_reports::Counters;
@@ -51,8 +55,26 @@ pub struct Service {
     pub(crate) journals: Vec<LowerName>,
 }
 
+/// Puts the chain of a zone at its apex. After `ZoneTwice` the zone is there, and the one that was there is gone.
+fn put(
+    alloc: Global,
+    catalog: &mut Zones<HostFile>,
+    apex: &Name,
+    chain: Vec<Handler>,
+) -> Result<(), SettingFault>
+    ensures put { OnOk result
+        (ChangesAt catalog.old.zones (lower_name apex.now) None (Some chain.items) catalog.new.zones) }
+    ensures others { catalog.new ≡ record catalog.old { zones = catalog.new.zones } }
+{
+    if put_chain(alloc, catalog, apex, chain)? {
+        Ok(())
+    } else {
+        Err(SettingFault::ZoneTwice)
+    }
+}
+
 /// Puts the zone of this name from the bytes of its file into the catalog, with the list of blocked names after it, if
-/// there is one. Returns the name of its apex. After `ZoneTwice` the zone is there, and the one that was there is gone.
+/// there is one. Returns the name of its apex.
 fn load(
     alloc: Global,
     catalog: &mut Zones<HostFile>,
@@ -68,14 +90,22 @@ fn load(
     let apex = zone_name(alloc, name)?;
     let zone = zone_of_file(alloc, &apex, bytes)?;
     let chain = chain(alloc, Either::Left(zone), list)?;
-    if put_chain(alloc, catalog, &apex, chain)? {
-        Ok(apex)
-    } else {
-        Err(SettingFault::ZoneTwice)
-    }
+    put(alloc, catalog, &apex, chain)?;
+    Ok(apex)
 }
 
-/// A server without zones and keys, which everybody may use.
+/// Allows the network that a text spells. Addresses that no network allows are denied.
+fn allow_only(alloc: Global, access: &mut AccessControl, text: &[u8]) -> Result<(), SettingFault>
+    ensures { OnOk result (AllowsText text.now access.old access.new) }
+{
+    let network = network(text)?;
+    let allowed = parts(alloc, &[network])?;
+    let all = with_all(alloc, &[])?;
+    access.insert_deny(all.as_slice())?;
+    Ok(access.insert_allow(allowed.as_slice())?)
+}
+
+/// A server without zones and keys, which everybody may use, and from which nobody may have transfers.
 fn empty_server(alloc: Global) -> Result<SignedServer<LeftToServer, Handler>, AllocError>
     ensures keys { IfOk result (λ made. made.keys ≡ []) }
     ensures transfer_keys { IfOk result (λ made. made.transfer_keys.items ≡ []) }
@@ -83,12 +113,14 @@ fn empty_server(alloc: Global) -> Result<SignedServer<LeftToServer, Handler>, Al
     ensures identifier { IfOk result (λ made. made.server.catalog.nsid ≡ None) }
     ensures denied { IfOk result (λ made. HasNoNetwork made.server.rules.access.deny) }
     ensures allowed { IfOk result (λ made. HasNoNetwork made.server.rules.access.allow) }
-    ensures transfers_denied { IfOk result (λ made. HasNoNetwork made.server.rules.transfers.deny) }
+    ensures transfers_denied { IfOk result (λ made. SameNetworks all_networks made.server.rules.transfers.deny) }
     ensures transfers_allowed { IfOk result (λ made. HasNoNetwork made.server.rules.transfers.allow) }
     ensures limit { IfOk result (λ made. made.server.rules.max_udp ≡ 1232) }
 {
     let catalog = Catalog::new(alloc, LeftToServer);
-    let rules = Rules::new(alloc);
+    let all = with_all(alloc, &[])?;
+    let mut rules = Rules::new(alloc);
+    rules.transfers = networks::access(alloc, all.as_slice(), &[])?;
     let server = Server::new(alloc, rules, catalog)?;
     let signed = SignedServer::new(alloc, server, Keys::new(alloc))?;
     Ok(signed)
@@ -100,7 +132,7 @@ impl Service {
     ghost use Rattle.server.specs.Settings.{IsUnset, rules_of, with_identifier, with_keys, with_rules, with_transfer_keys, with_zones, zones_of};
     ghost use Rattle.server.specs.Updates.{AreServed};
 
-    /// A server without zones and keys, which everybody may use.
+    /// A server without zones and keys, which everybody may use, and from which nobody may have transfers.
     pub fn new(alloc: Global) -> Result<Service, AllocError>
         ensures { IfOk result IsUnset }
     {
@@ -140,6 +172,21 @@ impl Service {
         Ok(self.apexes.push(apex)?)
     }
 
+    /// Answers SERVFAIL to each query for the zone of this name, of which no file is taken. After `ZoneTwice` the zone
+    /// that was there is gone.
+    pub fn fail_zone(&mut self, alloc: Global, name: &[u8]) -> Result<(), SettingFault>
+        ensures ok { OnOk result ((apex : DomainName) × IsApexText name.now apex ×
+            (self.new.apexes.items ≡ self.old.apexes.items ++ apex ∷ []) ×
+            ChangesAt (zones_of self.old) (lower_name apex) None (Some []) (zones_of self.new)) }
+        ensures others { self.new ≡ with_zones (record self.old { apexes = self.new.apexes }) (zones_of self.new) }
+    {
+        let catalog = &mut self.answering.server.server.catalog;
+        let apex = zone_name(alloc, name)?;
+        put(alloc, catalog, &apex, Vec::new(alloc))?;
+        self.apexes.push(apex)?;
+        Ok(())
+    }
+
     /// Takes the keys that the bytes of a file have, of which there is one at least. Those that were there are gone.
     pub fn set_keys(&mut self, alloc: Global, text: &[u8]) -> Result<(), SettingFault>
         ensures ok { OnOk result (AreKeysOfFile text.now self.new.answering.server.keys) }
@@ -149,22 +196,15 @@ impl Service {
         Ok(())
     }
 
-    /// Lets requests that a key of this name signed have transfers from anywhere, and keeps transfers from all networks
-    /// but those that are allowed.
+    /// Lets requests that a key of this name signed have transfers from anywhere.
     pub fn allow_transfer_key(&mut self, alloc: Global, text: &[u8]) -> Result<(), SettingFault>
         ensures ok { OnOk result ((name : DomainName) × IsKeyNamed self.old.answering.server.keys text.now name ×
             (self.new.answering.server.transfer_keys.items ≡
-            self.old.answering.server.transfer_keys.items ++ name ∷ []) ×
-            Inserts (rules_of self.old).transfers.deny all_networks (rules_of self.new).transfers.deny) }
-        ensures allowed { SameNetworks (rules_of self.old).transfers.allow (rules_of self.new).transfers.allow }
-        ensures others { self.new ≡ with_transfer_keys
-            (with_rules self.old (record (rules_of self.old) { transfers = (rules_of self.new).transfers }))
-            self.new.answering.server.transfer_keys }
+            self.old.answering.server.transfer_keys.items ++ name ∷ [])) }
+        ensures others { self.new ≡ with_transfer_keys self.old self.new.answering.server.transfer_keys }
     {
         let server = &mut self.answering.server;
         let name = key_name(alloc, &server.keys, text)?;
-        let all = with_all(alloc, &[])?;
-        server.server.rules.transfers.insert_deny(all.as_slice())?;
         Ok(server.transfer_keys.push(name)?)
     }
 
@@ -203,17 +243,13 @@ impl Service {
         )?)
     }
 
-    /// Lets the addresses of a network use the server.
-    pub fn allow(&mut self, text: &[u8]) -> Result<(), SettingFault>
-        ensures ok { OnOk result
-            (InsertsText text.now (rules_of self.old).access.allow (rules_of self.new).access.allow) }
-        ensures denied { SameNetworks (rules_of self.old).access.deny (rules_of self.new).access.deny }
+    /// Lets the addresses of a network use the server. All others may not, unless another call allows them.
+    pub fn allow(&mut self, alloc: Global, text: &[u8]) -> Result<(), SettingFault>
+        ensures ok { OnOk result (AllowsText text.now (rules_of self.old).access (rules_of self.new).access) }
         ensures others { self.new ≡ with_rules self.old
             (record (rules_of self.old) { access = (rules_of self.new).access }) }
     {
-        let network = network(text)?;
-        let allowed = &mut self.answering.server.server.rules.access;
-        Ok(allowed.insert_allow(&[network])?)
+        allow_only(alloc, &mut self.answering.server.server.rules.access, text)
     }
 
     /// Keeps the addresses of a network from the server.
@@ -230,19 +266,19 @@ impl Service {
     }
 
     /// Lets the addresses of a network have transfers, if they may use the server.
-    pub fn allow_transfer(&mut self, text: &[u8]) -> Result<(), SettingFault>
-        ensures ok { OnOk result
-            (InsertsText text.now (rules_of self.old).transfers.allow (rules_of self.new).transfers.allow) }
-        ensures denied { SameNetworks (rules_of self.old).transfers.deny (rules_of self.new).transfers.deny }
+    pub fn allow_transfer(&mut self, alloc: Global, text: &[u8]) -> Result<(), SettingFault>
+        ensures ok { OnOk result (AllowsText text.now (rules_of self.old).transfers (rules_of self.new).transfers) }
         ensures others { self.new ≡ with_rules self.old
             (record (rules_of self.old) { transfers = (rules_of self.new).transfers }) }
     {
-        let network = network(text)?;
-        let receivers = &mut self.answering.server.server.rules.transfers;
-        Ok(receivers.insert_allow(&[network])?)
+        allow_only(
+            alloc,
+            &mut self.answering.server.server.rules.transfers,
+            text,
+        )
     }
 
-    /// Keeps transfers from the addresses of a network.
+    /// Keeps transfers from the addresses of a network, which is part of an allowed one.
     pub fn deny_transfer(&mut self, text: &[u8]) -> Result<(), SettingFault>
         ensures ok { OnOk result
             (InsertsText text.now (rules_of self.old).transfers.deny (rules_of self.new).transfers.deny) }

@@ -30,11 +30,11 @@ use tsig::Keys;
 /// Why a setting is not taken.
 #[derive(Clone, Copy, Debug, PartialEq, Eq, Error)]
 pub enum SettingFault {
-    /// A name is none.
+    /// A text is not the name of a zone.
     #[error("not the name of a zone")]
     ZoneName,
     /// There is a zone of this name.
-    #[error("a zone of this name is there")]
+    #[error("there is a zone of this name already")]
     ZoneTwice,
     /// A zone file is not taken.
     #[error("{0}")]
@@ -42,7 +42,7 @@ pub enum SettingFault {
     /// A list of blocked names blocks nothing: it is empty, or another kind of text.
     #[error("no line of the list gives a name")]
     NoNames,
-    /// A network is none.
+    /// A text is not a network.
     #[error("{0}")]
     Network(IpNetTextError),
     /// A bound is no number of bytes that a reply over UDP may always have (RFC 1035 section 4.2.1).
@@ -61,7 +61,7 @@ pub enum SettingFault {
     #[error("{0}")]
     Rule(GrantFault),
     /// A rule is of no zone that was added.
-    #[error("rule {number} of who may update is of no zone that is served")]
+    #[error("rule {number} of who may update is for a zone that is not served")]
     RuleWithoutZone {
         /// Which of the rules it is, from 1.
         number: usize,
@@ -70,7 +70,7 @@ pub enum SettingFault {
     #[error("{0}")]
     Journal(JournalFault),
     /// The zone has a journal.
-    #[error("the zone has a journal")]
+    #[error("the zone has a journal already")]
     JournalTwice,
     /// A text is not UTF-8.
     #[error("not UTF-8")]

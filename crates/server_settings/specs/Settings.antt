@@ -3,6 +3,7 @@ use Rattle.std.specs.Prelude.{◌≡◌, ◌⊎◌, ⊤, ◌++◌, ◌∷◌, []
 use Rattle.std.specs.List.{list_any}
 use Rattle.std.specs.Str.{IsUtf8}
 use Rattle.std.specs.declared.alloc.Global.{Global}
+use Rattle.toml.specs.Errors.{span_start}
 use Rattle.toml.specs.Parse.{parse_document}
 use Rattle.server_settings.specs.declared.fault.SettingsFault.{SettingsFault}
 use Rattle.server_settings.specs.declared.fault.SettingsFault.TheVariants as faults
@@ -209,10 +210,12 @@ NoneRefusedBefore options text place = (i : ℕ) → i < place → get_or text i
 abbrev pub IsShortest : List (String Global) → List ℕ → ℕ → Type 0
 IsShortest options text end = (end ≤ length text) × NoneRefusedBefore options text (end - 1)
 
--- Why a text gives no settings: it is no TOML; or its shortest front of whole lines that is refused has a name of no
--- option, or a value that gives an option none, and the line is the one with which that front ends.
+-- Why a text gives no settings: it is not TOML, and the line is the one where the error begins; or its shortest front
+-- of whole lines that is refused has a name of no option, or a value that gives an option none, and the line is the one
+-- with which that front ends.
 abbrev pub IsFault : List (String Global) → List ℕ → SettingsFault → Type 0
-IsFault options text (faults.Syntax e) = (ms : Members) → ¬ (IsDocument text ms)
+IsFault options text (faults.Syntax error line) =
+    ((ms : Members) → ¬ (IsDocument text ms)) × (line ≡ line_ends (take (span_start error) text) + 1)
 IsFault options text (faults.UnknownOption name line) =
     (end : ℕ) × IsShortest options text end × IsUnknown options (take end text) (string_bytes name) × (line ≡ line_of (take end text))
 IsFault options text (faults.WrongValue name line) =

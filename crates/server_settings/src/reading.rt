@@ -3,7 +3,7 @@
 ghost use Rattle.std.specs.Prelude.{◌≡◌, ◌==◌, ◌+◌, ◌<◌, ◌≤◌, ◌++◌, IfOk, IfErr, IfNone, IfSome, List, ℕ, None, Some, String, bytes_eq, cond, false, get_or, length, map, string_bytes, take, true};
 ghost use Rattle.std.specs.declared.alloc.Global.{Global};
 ghost use Rattle.toml.specs.Data.{Data, Members};
-ghost use Rattle.toml.specs.Errors.{IsMemory};
+ghost use Rattle.toml.specs.Errors.{IsMemory, IsWithin};
 ghost use Rattle.server_settings.specs.Settings.{AreKnown, AreSettings, IsDocument, IsFault, IsMemberRefusal, IsRefusal, IsRefused, IsShortest, IsTableRefusal, IsWrongValue, Pair, is_option, line_ends, line_of, said, settings_of, settings_under};
 ghost use Rattle.toml.specs.View.{table_view, view};
 
@@ -111,14 +111,17 @@ fn settings_of(alloc: Global, options: &[String], table: &Table) -> Result<Vec<S
 }
 
 /// That a text is no document, or that memory was refused to read it.
-fn syntax(e: Error) -> SettingsFault
-    ensures { (options : List (String Global)) (text : List ℕ) →
-        ((ms : Members) → ¬ (IsMemory e) → ¬ (IsDocument text ms)) → IsFault options text result }
+fn syntax(text: &[u8], error: Error) -> SettingsFault
+    requires { IsWithin text.now error }
+    ensures { (options : List (String Global)) →
+        ((ms : Members) → ¬ (IsMemory error) → ¬ (IsDocument text.now ms)) → IsFault options text.now result }
 {
-    if e.is_memory() {
-        SettingsFault::Memory
-    } else {
-        SettingsFault::Syntax(e)
+    match error.span() {
+        Some(span) => SettingsFault::Syntax {
+            error,
+            line: line_ends(&text[..span.start]) + 1,
+        },
+        None => SettingsFault::Memory,
     }
 }
 
@@ -264,7 +267,7 @@ pub fn read_settings(
 {
     let table = match toml::table_from_slice(alloc, text) {
         Ok(table) => table,
-        Err(e) => return Err(syntax(e)),
+        Err(e) => return Err(syntax(text, e)),
     };
     let settings = settings_of(alloc, options, &table);
     drop(table);

@@ -9,11 +9,11 @@ use thiserror::Error;
 /// What is wrong with a text.
 #[derive(Clone, Copy, Debug, PartialEq, Eq, Error)]
 pub enum TextFault {
-    /// The text ends where a field should stand.
+    /// The text ends before a field.
     #[error("a field is missing")]
     MissingField,
-    /// More stands behind the last field.
-    #[error("more text than fields")]
+    /// There is text after the last field.
+    #[error("text after the last field")]
     TooMuchText,
     /// The field is no TTL: a decimal number of seconds.
     #[error("not a TTL")]
@@ -43,7 +43,7 @@ pub enum TextFault {
     #[error("not a number")]
     BadNumber,
     /// A number is greater than its field can hold.
-    #[error("the number is too great")]
+    #[error("the number is too large")]
     NumberOutOfRange,
     /// A character string has more than 255 bytes (RFC 1035 section 3.3).
     #[error("a string has more than 255 bytes")]
@@ -52,10 +52,10 @@ pub enum TextFault {
     #[error("a backslash that escapes nothing")]
     BadEscape,
     /// A quoted string does not end.
-    #[error("the quote does not end")]
+    #[error("the quote is not closed")]
     UnclosedQuote,
     /// A parenthesis of a zone file is not closed.
-    #[error("the parenthesis does not close")]
+    #[error("the parenthesis is not closed")]
     OpenParenthesis,
     /// A parenthesis of a zone file closes none that is open.
     #[error("no parenthesis is open")]
@@ -75,31 +75,31 @@ pub enum TextFault {
     #[error("not base 64")]
     BadBase64,
     /// The length before the hexadecimal digits is not the number of bytes that they spell.
-    #[error("the length is not that of the data")]
+    #[error("the length is not the length of the data")]
     WrongLength,
-    /// The bytes are no data of that type without compression.
-    #[error("the bytes are no data of the type")]
+    /// The bytes are not data of that type without compression.
+    #[error("the bytes are not data of the type")]
     WrongData,
     /// The data have more bytes than their length can tell (RFC 1035 section 3.2.1).
     #[error("the data have more than 65535 bytes")]
     DataTooLong,
-    /// Data of the type are written as `\#`, a length and hexadecimal digits alone (RFC 3597 section 5).
-    #[error("data of the type are written with \\#")]
+    /// Data of the type are written only as `\#`, a length and hexadecimal digits (RFC 3597 section 5).
+    #[error("data of the type must be written with \\#")]
     NoTextForm,
 }
 
-/// Why a text could not be read: what is wrong and where, or want of memory.
+/// Why a text could not be read: what is wrong and where, or an allocation failed.
 #[derive(Clone, Copy, Debug, PartialEq, Eq, Error)]
 pub enum TextError {
-    /// Something is wrong with the text.
-    #[error("column {column}: {fault}")]
+    /// Something is wrong with the text. The message begins with the column.
+    #[error("{column}: {fault}")]
     At {
-        /// Which byte of the text it begins with; the first is 1. Where something is missing, the one behind the last.
+        /// Which byte of the text it begins with; the first is 1. If something is missing, the byte after the last one.
         column: usize,
         /// What is wrong.
         fault: TextFault,
     },
-    /// Memory was refused.
+    /// An allocation failed.
     #[error("out of memory")]
     Memory,
 }

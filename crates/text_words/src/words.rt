@@ -358,9 +358,21 @@ fn quoted_word<'a>(text: &'a [u8], start: usize) -> Result<(Word<'a>, usize), Te
     Ok((word, end + 1))
 }
 
-/// Where the field ends of which the byte stands at this place of a zone file: a parenthesis is a field of one byte, a
-/// quote that does not end has what stands behind it up to a blank, and at a blank or the end of the text there is
-/// none.
+/// Whether a quote is open at the end of this front of a zone file. Only the quotes of the last line count.
+fn is_in_quotes(front: &[u8]) -> bool {
+    let mut is_open = false;
+    let mut is_escaped = false;
+    for byte in front {
+        let is_quote = *byte == b'"' && !is_escaped;
+        is_open = *byte != b'\n' && is_open != is_quote;
+        is_escaped = *byte == b'\\' && !is_escaped;
+    }
+    is_open
+}
+
+/// The end of the field that has the byte at this place of a zone file. A parenthesis is a field of one byte. A quoted
+/// string ends at its second quote, and if that is not on this line, at a blank. At a blank or the end of the text there
+/// is no field.
 pub fn field_end(text: &[u8], place: usize) -> usize
     requires { place ≤ length text.now }
     ensures on { place ≤ result }
@@ -369,8 +381,9 @@ pub fn field_end(text: &[u8], place: usize) -> usize
     if place == text.len() || is_blank(text[place]) {
         return place;
     }
-    if place > 0 && text[place - 1] == b'"' {
-        if let Some(end) = quote_place(text, place) {
+    if is_in_quotes(&text[..place]) {
+        let end_of_line = line_end(text, place);
+        if let Some(end) = quote_place(&text[..end_of_line], place) {
             return end;
         }
     }

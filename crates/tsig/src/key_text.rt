@@ -17,41 +17,41 @@ use thiserror::Error;
 use wire_names::error::NameError;
 use wire_names::rr::domain::name::Name;
 
-/// What is wrong with the text of a key. No part of the text is told: it may be secret.
+/// What is wrong with the text of a key. It has no part of the text, which may be secret.
 #[derive(Clone, Copy, Debug, PartialEq, Eq, Error)]
 pub enum KeyFault {
     /// A word that is neither `ALGORITHM:NAME:SECRET` nor begins a field of a key.
-    #[error("not a key, and no field of one")]
+    #[error("not a key or a field of a key")]
     Form,
     /// The key has no name, no algorithm or no secret.
     #[error("a key without name, algorithm or secret")]
     MissingField,
-    /// The algorithm is none of those of `Algorithm`.
-    #[error("unknown algorithm")]
+    /// The algorithm is not one of `Algorithm`.
+    #[error("unknown algorithm; expected hmac-sha256, hmac-sha256-128, hmac-sha384, hmac-sha384-192, hmac-sha512 or hmac-sha512-256")]
     Algorithm,
-    /// The name is none.
+    /// The name is not a domain name.
     #[error("not a name")]
     Name,
-    /// The secret is no base64, or it is empty.
-    #[error("the secret is no base64, or empty")]
+    /// The secret is not base64, or it is empty.
+    #[error("the secret is empty or not base64")]
     Secret,
-    /// There are two keys of a name.
-    #[error("a second key of this name")]
+    /// There are two keys with one name.
+    #[error("a second key with this name")]
     Twice,
 }
 
-/// Why a text is none of keys.
+/// Why a text is not one of keys.
 #[derive(Clone, Copy, Debug, PartialEq, Eq, Error)]
 pub enum KeyTextError {
-    /// A fault of the text.
-    #[error("line {line}: {fault}")]
+    /// A fault of the text. The message begins with the line.
+    #[error("{line}: {fault}")]
     At {
-        /// Where it is; the first line is 1. For a key that misses a field, or is a second one, where the key begins.
+        /// On which line; the first is 1. If a field of a key is missing, or its name is taken, where the key begins.
         line: usize,
         /// What is wrong.
         fault: KeyFault,
     },
-    /// Memory was refused.
+    /// An allocation failed.
     #[error("out of memory")]
     Memory,
 }

@@ -31,7 +31,7 @@ pub enum Kind {
     #[error("another record of a type of which a name has one")]
     Second,
     /// A record before it is the same, its TTL aside (RFC 2181 section 5).
-    #[error("the same record stands before")]
+    #[error("the record is there twice")]
     Repeated,
     /// A CNAME stands beside other data (RFC 1034 section 3.6.2, RFC 2181 section 10.1).
     #[error("a CNAME beside other data")]

@@ -1,4 +1,4 @@
-//! Why the program ends before it has told what it was asked for.
+//! Why the program ends before it has done what it was asked for.
 
 use durable_updates::RedoError;
 use hickory_server::store::file::{RecordsError, ZoneError};
@@ -6,53 +6,53 @@ use std::alloc::{AllocError, AllocFailed};
 use std::io;
 use thiserror::Error;
 
-/// Why the program ends before it has told what it was asked for.
+/// Why the program ends before it has done what it was asked for.
 #[derive(Clone, Copy, Debug, PartialEq, Eq, Error)]
 pub enum Fault {
-    /// An argument is no text.
+    /// An argument is not UTF-8.
     #[error("an argument is not UTF-8")]
     Arguments,
-    /// The name of the apex is none.
+    /// The text for the name of the apex is not a name.
     #[error("not the name of a zone")]
     Origin,
-    /// A serial is no number of 32 bits.
-    #[error("not a serial")]
-    Serial,
-    /// Memory was refused.
+    /// An allocation failed.
     #[error("no memory")]
     Memory,
-    /// The output takes nothing.
+    /// The output cannot be written.
     #[error("the output cannot be written")]
     Write,
     /// There is no file of this name.
     #[error("there is no such file")]
     Absent,
-    /// A file is not read, for another reason.
+    /// A file cannot be read, for another reason.
     #[error("the file cannot be read")]
     Unread,
-    /// A file is no journal's.
-    #[error("it is no journal")]
+    /// A file is not one of a journal.
+    #[error("not a journal")]
     NotAJournal,
-    /// One of the two files of a journal is none's.
-    #[error("it is no journal, or the file '-wal' beside it is none")]
+    /// One of the two files of a journal is not one of a journal.
+    #[error("this file or its '-wal' file is not a journal")]
     OneIsNone,
-    /// A file that a zone file includes is none of one, which was told.
-    #[error("a file that it includes is not taken")]
+    /// A file that a zone file includes has a fault, which was reported.
+    #[error("a file that it includes has a fault")]
     Included,
-    /// A zone file has no zone.
+    /// A zone file is not the file of a zone.
     #[error("{0}")]
     Zone(ZoneError),
-    /// The zone had this serial at no entry.
-    #[error("the zone has not this serial, before or behind any entry")]
-    NoSerial,
+    /// The zone had this serial neither before nor after an entry.
+    #[error("the zone never had serial {serial}")]
+    NoSerial {
+        /// The serial.
+        serial: u32,
+    },
     /// Another process has the files of a journal open.
     #[error("the journal is in use")]
     InUse,
-    /// A journal of SQLite's has the name of one beside it.
-    #[error("a journal of SQLite stands beside it")]
+    /// There is a rollback journal of SQLite for the file.
+    #[error("there is a rollback journal of SQLite beside it")]
     Rollback,
-    /// The zone has no snapshot.
-    #[error("the zone does not read back as it is")]
+    /// A snapshot of the zone does not read back as the zone.
+    #[error("a snapshot does not read back as the zone")]
     NoSnapshot,
     /// The snapshot was not written.
     #[error("the snapshot is not written")]
@@ -68,8 +68,8 @@ pub enum Fault {
         /// The serial of the file.
         other: u32,
     },
-    /// A record has no room in a request.
-    #[error("a record does not fit a request for an update")]
+    /// A record does not fit into a request for an update.
+    #[error("a record does not fit into a request for an update")]
     RecordTooLong,
     /// No updates lead to the zone.
     #[error("no updates lead to this zone")]
@@ -83,10 +83,10 @@ pub enum Fault {
 }
 
 impl Fault {
-    /// The status that tells it.
+    /// Its exit status.
     pub fn status(self) -> u8 {
         match self {
-            Fault::Arguments | Fault::Origin | Fault::Serial => 2,
+            Fault::Arguments | Fault::Origin => 2,
             Fault::Memory => 3,
             Fault::Write => 4,
             _ => 5,

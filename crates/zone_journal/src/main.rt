@@ -37,6 +37,7 @@ use crate::zone::{empty_zone, print_zone, with_entries, zone_of_file};
 use crate::zone_file::read_zone_of;
 use clap::error::ErrorKind;
 use clap::{Arg, ArgAction, ArgMatches, Command, Error};
+use hickory_server::store::file::ZoneError;
 use hickory_wire::{Name, NameError};
 use journal::{ending_at, generation, is_journal, read_entries};
 use journal_entries::{Entry, Part, behind, entry_of};
@@ -154,18 +155,31 @@ fn apex_of(alloc: Global, text: &str) -> Result<Name, Fault> {
     }
 }
 
-/// Tells why the program ends on the standard error, and gives the status. That it cannot be told changes nothing.
+/// Reports why the program ends on the standard error, and gives the status. A failure to report it changes nothing.
 fn tell<R: Eprint>(rt: &R, fault: Fault) -> u8 {
     let _ = eprintln!(rt; "zone_journal: {fault}");
     fault.status()
 }
 
-/// Tells why a file is not taken on the standard error, and gives the status. Want of memory is of no file.
+/// Reports the fault of the name of an apex, which has this text, and gives the status.
+fn tell_of_origin<R: Eprint>(rt: &R, text: &str, fault: Fault) -> u8 {
+    if fault != Fault::Origin {
+        return tell(rt, fault);
+    }
+    let _ = eprintln!(rt; "zone_journal: {text:?} is {fault}");
+    fault.status()
+}
+
+/// Reports the fault of a file on the standard error, and gives the status. A fault that is not of the file is reported
+/// without its name.
 fn tell_of_file<R: Eprint>(rt: &R, file: &str, fault: Fault) -> u8 {
     if fault.status() != 5 {
         return tell(rt, fault);
     }
-    let _ = eprintln!(rt; "zone_journal: {file}: {fault}");
+    let _ = match fault {
+        Fault::Zone(ZoneError::Text(placed)) => eprintln!(rt; "zone_journal: {file}:{placed}"),
+        _ => eprintln!(rt; "zone_journal: {file}: {fault}"),
+    };
     fault.status()
 }
 
@@ -283,14 +297,20 @@ fn print_end<R: Files + Print + Eprint + Alloc<A = Global>>(
     }
 }
 
-/// The serial that is asked for, if one is.
-fn serial_of(matches: &ArgMatches<'_>) -> Result<Option<u32>, Fault> {
+/// The serial of `--serial`, if that is given, or the status after a report on the standard error.
+fn serial_of<R: Eprint>(rt: &R, matches: &ArgMatches<'_>) -> Result<Option<u32>, u8> {
     let Some(text) = matches.get_str("serial") else {
         return Ok(None);
     };
     match text.parse::<u32>() {
         Ok(serial) => Ok(Some(serial)),
-        Err(_) => Err(Fault::Serial),
+        Err(_) => {
+            let _ = eprintln!(rt;
+                "zone_journal: --serial: {text:?} is not a number from 0 to {}",
+                u32::MAX
+            );
+            Err(2)
+        }
     }
 }
 
@@ -304,13 +324,13 @@ fn run_zone<R: Files + Print + Eprint + Alloc<A = Global>>(
     else {
         return tell(rt, Fault::Arguments);
     };
-    let serial = match serial_of(matches) {
+    let serial = match serial_of(rt, matches) {
         Ok(serial) => serial,
-        Err(fault) => return tell(rt, fault),
+        Err(status) => return status,
     };
     match apex_of(rt.alloc(), text) {
         Ok(origin) => print_end(rt, &origin, file, zone_file, serial),
-        Err(fault) => tell(rt, fault),
+        Err(fault) => tell_of_origin(rt, text, fault),
     }
 }
 
@@ -322,7 +342,7 @@ fn run_compact(rt: &HostRuntime, file: &str, matches: &ArgMatches<'_>) -> u8 {
     };
     let origin = match apex_of(rt.alloc(), text) {
         Ok(origin) => origin,
-        Err(fault) => return tell(rt, fault),
+        Err(fault) => return tell_of_origin(rt, text, fault),
     };
     let zone = match zone_of_file(rt, &origin, zone_file) {
         Ok(zone) => zone,
@@ -371,7 +391,7 @@ fn run_import(rt: &HostRuntime, file: &str, matches: &ArgMatches<'_>) -> u8 {
     let takes_next = matches.get_flag("next-serial");
     match apex_of(rt.alloc(), text) {
         Ok(origin) => import_file(rt, &origin, file, zone_file, takes_next),
-        Err(fault) => tell(rt, fault),
+        Err(fault) => tell_of_origin(rt, text, fault),
     }
 }
 
@@ -403,14 +423,32 @@ fn run_matches(rt: &HostRuntime, matches: &ArgMatches<'_>) -> u8 {
     }
 }
 
-/// Prints what is said of the arguments, which may be the help that they ask for, and gives the status.
-fn print_of_arguments<R: Print + Eprint>(rt: &R, error: &Error) -> u8 {
+/// Reports what is wrong with the arguments, as one line: the lines of this text before its first empty line.
+fn tell_of_arguments<R: Eprint>(rt: &R, text: &str) -> u8 {
+    let _ = eprint!(rt; "zone_journal:");
+    for line in text.strip_prefix("error: ").unwrap_or(text).lines() {
+        if line.is_empty() {
+            break;
+        }
+        let _ = eprint!(rt; " {}", line.trim());
+    }
+    let _ = eprintln!(rt; "");
+    2
+}
+
+/// Prints the help or the version that the arguments ask for, or what is wrong with them, and gives the status.
+fn print_of_arguments<R: Print + Eprint + Alloc<A = Global>>(rt: &R, error: &Error) -> u8 {
     if matches!(error.kind(), ErrorKind::OutOfMemory) {
         return tell(rt, Fault::Memory);
     }
+    if error.exit_code() != 0 {
+        return match format!(in rt.alloc(); "{error}") {
+            Ok(text) => tell_of_arguments(rt, &text),
+            Err(_) => tell(rt, Fault::Memory),
+        };
+    }
     match error.print(rt) {
-        Ok(()) if error.exit_code() == 0 => 0,
-        Ok(()) => 2,
+        Ok(()) => 0,
         Err(_) => tell(rt, Fault::Write),
     }
 }

@@ -51,7 +51,7 @@ pub fn with_entries(
     };
     match recall_to(&mut zone, alloc, entries, serial)? {
         Some(_) => Ok(zone),
-        None => Err(Fault::NoSerial),
+        None => Err(Fault::NoSerial { serial }),
     }
 }
 

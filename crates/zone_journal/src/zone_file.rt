@@ -51,7 +51,7 @@ fn fault_of_zone<R: Eprint>(rt: &R, refused: &IncludedError) -> Fault {
     match (refused.error, str::from_utf8(refused.file.as_slice())) {
         (ZoneFileError::Memory, _) => Fault::Memory,
         (fault, Ok(name)) if !name.is_empty() => {
-            let _ = eprintln!(rt; "zone_journal: {name}: {fault}");
+            let _ = eprintln!(rt; "zone_journal: {name}:{fault}");
             Fault::Included
         }
         (fault, _) => Fault::Zone(ZoneError::Text(fault)),

@@ -35,7 +35,7 @@ help_lines = HELP.now ++ codes "\n"
 
 -- the line that tells a refusal, with its newline
 abbrev pub refusal_line : Refusal → List ℕ
-refusal_line Usage = codes "usage: zone_reply udp|tcp|--version|--help\n"
+refusal_line Usage = codes "expected one argument: udp, tcp, --version or --help\n"
 refusal_line NotHex = codes "not hex\n"
 refusal_line Unreadable = codes "unreadable\n"
 refusal_line Memory = codes "no memory\n"

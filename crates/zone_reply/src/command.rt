@@ -8,7 +8,6 @@ use hickory_server::VERSION;
 use hickory_server::proto::{NameError, Protocol};
 use std::alloc::{AllocError, AllocFailed, Global};
 use std::io::Write;
-use thiserror::Error;
 
 /// What the arguments ask for.
 #[derive(Clone, Copy, Debug, PartialEq, Eq)]
@@ -22,19 +21,15 @@ pub enum Command {
 }
 
 /// Why there is no reply.
-#[derive(Clone, Copy, Debug, PartialEq, Eq, Error)]
+#[derive(Clone, Copy, Debug, PartialEq, Eq)]
 pub enum Refusal {
     /// There is not exactly one argument, `udp`, `tcp`, `--version`, `--help` or `-h`.
-    #[error("usage")]
     Usage,
     /// The line cannot be read, or is not an even number of hex digits.
-    #[error("not hex")]
     NotHex,
     /// The bytes begin with no DNS message.
-    #[error("unreadable")]
     Unreadable,
     /// Memory was refused.
-    #[error("no memory")]
     Memory,
 }
 
@@ -44,7 +39,7 @@ impl Refusal {
         ensures { result.now ≡ refusal_line self }
     {
         match self {
-            Refusal::Usage => b"usage: zone_reply udp|tcp|--version|--help\n",
+            Refusal::Usage => b"expected one argument: udp, tcp, --version or --help\n",
             Refusal::NotHex => b"not hex\n",
             Refusal::Unreadable => b"unreadable\n",
             Refusal::Memory => b"no memory\n",

@@ -78,8 +78,8 @@ module _ (opens : List ℕ → List ℕ → Type 0) where
   AreKeysOf None keys = keys ≡ []
   AreKeysOf (Some file) keys = (text : List ℕ) × opens file text × AreKeysOfFile text keys
 
--- The networks that may have no transfer: those of the arguments; and all, if keys may have transfers from anywhere. A
--- network that is allowed with a longer prefix has transfers nevertheless.
-abbrev pub denied_transfers : List (List ℕ) → List Network → List Network
-denied_transfers [] networks = networks
-denied_transfers (name ∷ names) networks = networks ++ all_networks
+-- The networks that may not use a server that allows some networks and denies others: those that it denies; and all, if
+-- it allows one. What is allowed with a longer prefix may use it nevertheless.
+abbrev pub denied_beside : List Network → List Network → List Network
+denied_beside [] denied = denied
+denied_beside (network ∷ allowed) denied = denied ++ all_networks

@@ -11,26 +11,27 @@ use std::alloc::{AllocError, AllocFailed};
 use std::io;
 use thiserror::Error;
 
-/// Why the program ends before its input does. A file is named by its place among those of its option.
+/// Why the program ends before its input does. An argument is named by its place, and a file by its place among those
+/// of its option.
 #[derive(Clone, Copy, Debug, PartialEq, Eq, Error)]
 pub enum Fault {
     /// An argument is no text.
     #[error("an argument is not UTF-8")]
     NotUtf8,
     /// The text before the `=` of `--zone` is no name.
-    #[error("argument {place}: not the name of a zone")]
+    #[error("not the name of a zone")]
     ZoneName {
         /// Which argument it is; the first is 1.
         place: usize,
     },
     /// The value of `--nsid` has more bytes than an option holds (RFC 6891 section 6.1.2).
-    #[error("argument {place}: the identifier is too long")]
+    #[error("the identifier is too long")]
     LongIdentifier {
         /// Which argument it is; the first is 1.
         place: usize,
     },
     /// The value of `--allow-transfer-key` is the name of no key.
-    #[error("argument {place}: {fault}")]
+    #[error("{fault}")]
     TransferKey {
         /// Which argument it is; the first is 1.
         place: usize,
@@ -38,7 +39,7 @@ pub enum Fault {
         fault: KeyNameFault,
     },
     /// The value of `--allow-update` is no rule.
-    #[error("argument {place}: {fault}")]
+    #[error("{fault}")]
     Update {
         /// Which argument it is; the first is 1.
         place: usize,
@@ -46,19 +47,19 @@ pub enum Fault {
         fault: GrantFault,
     },
     /// The text before the `=` of `--allow-update` is the name of no zone that is served.
-    #[error("argument {place}: there is no --zone of this name")]
+    #[error("there is no --zone of this name")]
     UpdateZone {
         /// Which argument it is; the first is 1.
         place: usize,
     },
     /// The text before the `=` of `--journal` is the name of no zone that takes updates.
-    #[error("argument {place}: there is no --allow-update of this zone")]
+    #[error("there is no --allow-update of this zone")]
     JournalZone {
         /// Which argument it is; the first is 1.
         place: usize,
     },
     /// Two journals are given for one zone.
-    #[error("argument {place}: the zone has a journal already")]
+    #[error("the zone has a journal already")]
     JournalTwice {
         /// Which argument it is; the first is 1.
         place: usize,
@@ -77,13 +78,10 @@ pub enum Fault {
         /// Which journal it is.
         place: usize,
     },
-    /// The environment has an address of the peer that is none.
-    #[error("the environment tells a peer's address that is none")]
-    Peer,
     /// Two files are given for one zone.
-    #[error("two files for one zone")]
+    #[error("the zone is given twice")]
     ZoneTwice {
-        /// Which file of a zone it is.
+        /// Which argument it is; the first is 1.
         place: usize,
     },
     /// A zone file is not taken.
@@ -129,8 +127,8 @@ pub enum Fault {
     /// Memory was refused.
     #[error("no memory")]
     Memory,
-    /// The system gives no time.
-    #[error("the system tells no time")]
+    /// The clock cannot be read.
+    #[error("the clock cannot be read")]
     Clock,
     /// The input cannot be read.
     #[error("the input cannot be read")]
@@ -154,7 +152,7 @@ pub enum Ended {
     Stream(StreamFault),
     /// Memory was refused.
     Memory,
-    /// The system gives no time.
+    /// The clock cannot be read.
     Clock,
     /// The output takes nothing.
     Write,
@@ -166,16 +164,26 @@ impl Fault {
         match self {
             Fault::Denied | Fault::Response | Fault::Unreadable | Fault::Line { .. } => 1,
             Fault::Stream(StreamFault::Partial | StreamFault::TooLong) => 1,
-            Fault::NotUtf8 | Fault::ZoneName { .. } | Fault::LongIdentifier { .. } | Fault::Peer =>
-                2,
+            Fault::NotUtf8 | Fault::ZoneName { .. } | Fault::LongIdentifier { .. } => 2,
             Fault::TransferKey { .. } | Fault::Update { .. } | Fault::UpdateZone { .. } => 2,
-            Fault::JournalZone { .. } | Fault::JournalTwice { .. } => 2,
+            Fault::JournalZone { .. } | Fault::JournalTwice { .. } | Fault::ZoneTwice { .. } => 2,
             Fault::Memory | Fault::Stream(StreamFault::Memory) => 3,
             Fault::Clock | Fault::Read | Fault::Write => 4,
             Fault::Stream(StreamFault::Read) => 4,
-            Fault::ZoneTwice { .. } | Fault::Zone { .. } | Fault::List { .. } => 5,
+            Fault::Zone { .. } | Fault::List { .. } => 5,
             Fault::Keys { .. } | Fault::Journal { .. } => 5,
             Fault::Unwritten { .. } => 6,
+        }
+    }
+
+    /// The argument that it is of, if it is of one; the first is 1.
+    pub fn argument(self) -> Option<usize> {
+        match self {
+            Fault::ZoneName { place } | Fault::LongIdentifier { place } => Some(place),
+            Fault::TransferKey { place, .. } | Fault::Update { place, .. } => Some(place),
+            Fault::UpdateZone { place } | Fault::JournalZone { place } => Some(place),
+            Fault::JournalTwice { place } | Fault::ZoneTwice { place } => Some(place),
+            _ => None,
         }
     }
 

@@ -25,7 +25,7 @@ fn fault_of_refused<R: Eprint>(rt: &R, refused: &RefusedFile) -> ZoneFileFault
     match (refused.fault, str::from_utf8(refused.file.as_slice())) {
         (ZoneFault::Memory, _) => ZoneFileFault::Memory,
         (fault, Ok(name)) if !name.is_empty() => {
-            let _ = eprintln!(rt; "zone_serve: {name}: {fault}");
+            let _ = eprintln!(rt; "zone_serve: {name}:{fault}");
             ZoneFileFault::Included
         }
         (fault, _) => ZoneFileFault::Zone(fault),

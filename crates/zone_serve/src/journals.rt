@@ -38,13 +38,13 @@ pub enum JournalFileFault {
     #[error("the journal is in use")]
     InUse,
     /// A journal of SQLite's has the name of one beside it.
-    #[error("a journal of SQLite stands beside it")]
+    #[error("there is a rollback journal of SQLite beside it")]
     Rollback,
     /// The file at this path is no journal's, and is left as it is.
-    #[error("it is no journal")]
+    #[error("not a journal")]
     NotAJournal,
     /// So is the file beside it.
-    #[error("the file '-wal' beside it is no journal")]
+    #[error("its '-wal' file is not a journal")]
     NotAJournalBeside,
     /// An entry is no update of the zone.
     #[error("{0} is no update of this zone")]

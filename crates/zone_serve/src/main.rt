@@ -8,13 +8,13 @@
 //! if input, output or clock fail, 5 if a file is not taken, and 6 if updates at hand are not written.
 #![tactic(auto)]
 
-ghost use Rattle.std.specs.Prelude.{◌≡◌, [], IfOk, MatchOption, OnOk, option_map};
-ghost use Rattle.std.specs.List.{AllZip};
+ghost use Rattle.std.specs.Prelude.{◌≡◌, ◌++◌, [], IfOk, MatchOption, OnOk, option_map};
+ghost use Rattle.std.specs.List.{AllZip, flat_map};
 ghost use Rattle.server_limits.specs.Access.{SameNetworks};
 ghost use Rattle.served_zones.specs.ServedZones.{IsLoadedAs};
-ghost use Rattle.served_keys.specs.ServedKeys.{IsKeyNamed};
+ghost use Rattle.served_keys.specs.ServedKeys.{IsKeyNamed, all_networks, parts_of};
 ghost use Rattle.serve_options.specs.Arguments.{transfer_keys_of};
-ghost use Rattle.zone_serve.specs.Catalogs.{AreKeysOf, AreLoaded, AreZonesOf, IsZoneAt, denied_transfers};
+ghost use Rattle.zone_serve.specs.Catalogs.{AreKeysOf, AreLoaded, AreZonesOf, IsZoneAt, denied_beside};
 
 mod damage;
 mod fault;
@@ -39,7 +39,7 @@ use crate::groups::{Holder, Watch, serve_lines};
 use crate::holder::JournalHolder;
 use crate::included::zone_of;
 use crate::journals::{JournalWatch, SystemFiles, open_journals};
-use crate::keys::{keys_of, transfer_keys_of};
+use crate::keys::{KeyFileFault, keys_of, transfer_keys_of};
 use crate::lists::blocklist;
 use crate::server::{apex_of, identifier_of, rules_of};
 use crate::serving::{serve_datagram, serve_stream};
@@ -49,13 +49,16 @@ use hickory_server::VERSION;
 use hickory_server::proto::Name;
 use hickory_server::server::Server;
 use hickory_server::store::blocklist::BlocklistZoneHandler;
+use hickory_server::store::file::ZoneError;
 use hickory_server::zone_handler::{Catalog, ZoneHandler};
 use hickory_server::zone_store::Either;
 use hickory_server::zone_text::FileOpener;
 use serve_options::arguments::{ArgumentFault, Mode, Settings, ZoneArgument};
+use served_keys::files::KeysFault;
 use served_zones::chains::{chain, put_chain};
 use served_zones::grants::grant_updates;
 use served_zones::handler::{Handler, Zones};
+use served_zones::zone_files::ZoneFault;
 use signed_server::{LeftToServer, SignedServer};
 use sqlite_disk::Disk;
 use sqlite_std_file::File;
@@ -79,22 +82,31 @@ fn given_words<R: Env + Alloc<A = Global>>(rt: &R) -> Result<Vec<String>, Fault>
     }
 }
 
-/// The address of the peer in a variable of the environment, if it is set.
-fn told_peer<R: Env + Alloc<A = Global>>(rt: &R, name: &str) -> Result<Option<IpAddr>, Fault> {
+/// Reports that a variable of the environment is not an address, and gives the status.
+fn tell_of_variable<R: Eprint>(rt: &R, name: &str, text: &str) -> u8 {
+    let _ = eprintln!(rt; "zone_serve: {name}: {text:?} is not an IP address");
+    2
+}
+
+/// The address of the peer in a variable of the environment, if it is set. A fault is reported, and gives the status.
+fn told_peer<R: Env + Eprint + Alloc<A = Global>>(
+    rt: &R,
+    name: &str,
+) -> Result<Option<IpAddr>, u8> {
     match env::var(rt, name) {
         Ok(text) => match peer::address(text.as_str()) {
             Some(address) => Ok(Some(address)),
-            None => Err(Fault::Peer),
+            None => Err(tell_of_variable(rt, name, text.as_str())),
         },
         Err(VarError::NotPresent) => Ok(None),
-        Err(VarError::NotUnicode) => Err(Fault::Peer),
-        Err(VarError::OutOfMemory) => Err(Fault::Memory),
+        Err(VarError::NotUnicode) => Err(tell_of_variable(rt, name, "\u{fffd}")),
+        Err(VarError::OutOfMemory) => Err(tell(rt, Fault::Memory)),
     }
 }
 
 /// The address of the peer, as systemd gives it (`REMOTE_ADDR`), or socat (`SOCAT_PEERADDR`), and 127.0.0.1 if neither
-/// does.
-fn peer_address<R: Env + Alloc<A = Global>>(rt: &R) -> Result<IpAddr, Fault> {
+/// does. A fault is reported, and gives the status.
+fn peer_address<R: Env + Eprint + Alloc<A = Global>>(rt: &R) -> Result<IpAddr, u8> {
     if let Some(address) = told_peer(rt, "REMOTE_ADDR")? {
         return Ok(address);
     }
@@ -129,7 +141,9 @@ fn load<R: Eprint + Alloc<A = Global>, O: FileOpener, D: Disk + Drop>(
     if put_chain(rt.alloc(), catalog, &apex, chain)? {
         Ok(apex)
     } else {
-        Err(Fault::ZoneTwice { place })
+        Err(Fault::ZoneTwice {
+            place: argument.place,
+        })
     }
 }
 
@@ -200,13 +214,16 @@ fn server_for<R: Eprint + Alloc<A = Global>, O: FileOpener, D: Disk + Drop>(
     files: &O,
     settings: &Settings<'_>,
 ) -> Result<SignedServer<LeftToServer, Handler<D>>, Fault>
-    ensures denied { IfOk result (λ made. SameNetworks settings.now.denied.items made.server.rules.access.deny) }
-    ensures allowed { IfOk result (λ made. SameNetworks settings.now.allowed.items made.server.rules.access.allow) }
+    ensures denied { IfOk result
+        (λ made. SameNetworks (denied_beside settings.now.allowed.items settings.now.denied.items)
+        made.server.rules.access.deny) }
+    ensures allowed { IfOk result
+        (λ made. SameNetworks (flat_map parts_of settings.now.allowed.items) made.server.rules.access.allow) }
     ensures transfers_denied { IfOk result
-        (λ made. SameNetworks (denied_transfers (transfer_keys_of settings.now) settings.now.transfers_denied.items)
-        made.server.rules.transfers.deny) }
+        (λ made. SameNetworks (settings.now.transfers_denied.items ++ all_networks) made.server.rules.transfers.deny) }
     ensures transfers_allowed { IfOk result
-        (λ made. SameNetworks settings.now.transfers_allowed.items made.server.rules.transfers.allow) }
+        (λ made. SameNetworks (flat_map parts_of settings.now.transfers_allowed.items)
+        made.server.rules.transfers.allow) }
     ensures limit { IfOk result (λ made. MatchOption settings.now.max_udp (made.server.rules.max_udp ≡ 1232)
         (λ limit. made.server.rules.max_udp ≡ limit)) }
     ensures zones { IfOk result
@@ -287,9 +304,7 @@ fn serve(rt: &HostRuntime, settings: &Settings<'_>, address: IpAddr) -> Result<(
 /// The file that a fault is of.
 fn file_of<'a>(settings: &Settings<'a>, fault: Fault) -> Option<&'a str> {
     match fault {
-        Fault::Zone { place, .. } | Fault::ZoneTwice { place } => {
-            settings.zones.get(place).map(|zone| zone.file)
-        }
+        Fault::Zone { place, .. } => settings.zones.get(place).map(|zone| zone.file),
         Fault::List { place, .. } => settings.blocklists.get(place).copied(),
         Fault::Keys { .. } => settings.keys,
         Fault::Journal { place, .. } | Fault::Unwritten { place } => {
@@ -305,37 +320,66 @@ fn tell<R: Eprint>(rt: &R, fault: Fault) -> u8 {
     fault.status()
 }
 
-/// Tells a fault of a file on the standard error, and gives its status.
+/// Whether the message of a fault of a file begins with its line.
+fn has_line(fault: Fault) -> bool {
+    match fault {
+        Fault::Zone { fault, .. } => {
+            matches!(
+                fault,
+                ZoneFileFault::Zone(ZoneFault::Zone(ZoneError::Text(_)))
+            )
+        }
+        Fault::Keys { fault } => matches!(fault, KeyFileFault::Keys(KeysFault::Text(_))),
+        _ => false,
+    }
+}
+
+/// Reports a fault of a file on the standard error, and gives its status.
 fn tell_of_file<R: Eprint>(rt: &R, file: &str, fault: Fault) -> u8 {
-    let _ = eprintln!(rt; "zone_serve: {file}: {fault}");
+    let _ = if has_line(fault) {
+        eprintln!(rt; "zone_serve: {file}:{fault}")
+    } else {
+        eprintln!(rt; "zone_serve: {file}: {fault}")
+    };
     fault.status()
 }
 
-/// Tells a fault of a connection on the standard error, and gives its status.
+/// Reports a fault of a connection on the standard error, and gives its status.
 fn tell_of_peer<R: Eprint>(rt: &R, address: IpAddr, fault: Fault) -> u8 {
     let _ = eprintln!(rt; "zone_serve: {address}: {fault}");
     fault.status()
 }
 
-/// Runs the program with these settings, and gives its status.
-fn run_settings(rt: &HostRuntime, settings: &Settings<'_>) -> u8 {
+/// Reports a fault of an argument after its option and its value, and gives its status.
+fn tell_of_argument<R: Eprint>(rt: &R, arguments: &[String], place: usize, fault: Fault) -> u8 {
+    let before = &arguments[..arguments.len().min(place)];
+    let [.., option, value] = before else {
+        return tell(rt, fault);
+    };
+    let _ = eprintln!(rt; "zone_serve: {option}: {value:?}: {fault}");
+    fault.status()
+}
+
+/// Runs the program with the settings of its arguments, and gives its status.
+fn run_settings(rt: &HostRuntime, arguments: &[String], settings: &Settings<'_>) -> u8 {
     let address = match peer_address(rt) {
         Ok(address) => address,
-        Err(fault) => return tell(rt, fault),
+        Err(status) => return status,
     };
     match serve(rt, settings, address) {
         Ok(()) => 0,
-        Err(fault) => match file_of(settings, fault) {
-            Some(file) => tell_of_file(rt, file, fault),
-            None if fault.status() == 1 && settings.mode != Mode::Lines => {
+        Err(fault) => match (fault.argument(), file_of(settings, fault)) {
+            (Some(place), _) => tell_of_argument(rt, arguments, place, fault),
+            (None, Some(file)) => tell_of_file(rt, file, fault),
+            _ if fault.status() == 1 && settings.mode != Mode::Lines => {
                 tell_of_peer(rt, address, fault)
             }
-            None => tell(rt, fault),
+            _ => tell(rt, fault),
         },
     }
 }
 
-/// Tells what is wrong with the arguments on the standard error, and gives its status.
+/// Reports what is wrong with the arguments on the standard error, and gives its status.
 fn tell_of_arguments<R: Eprint>(rt: &R, fault: ArgumentFault<'_>) -> u8 {
     let _ = eprintln!(rt; "zone_serve: {fault}");
     match fault {
@@ -351,7 +395,7 @@ zone_serve [--zone NAME=FILE].. [OPTION].. udp|tcp|lines
   --blocklist FILE           names that are blocked, a line each
   --allow NET, --deny NET    who may ask
   --allow-transfer NET, --deny-transfer NET
-                             who of those may have a zone transferred
+                             who of those may have a zone transferred, else nobody
   --keys FILE                the keys that sign messages (TSIG)
   --allow-transfer-key NAME  whose good signature has zones transferred from anywhere
   --allow-update ZONE=RULE   who may update what in a zone, by a rule
@@ -375,7 +419,7 @@ fn printed<R: Eprint>(rt: &R, ended: io::Result<()>) -> u8 {
 /// Runs the program with these options, and gives its status.
 fn read_settings(rt: &HostRuntime, arguments: &[String]) -> u8 {
     match Settings::read(rt.alloc(), arguments) {
-        Ok(settings) => run_settings(rt, &settings),
+        Ok(settings) => run_settings(rt, arguments, &settings),
         Err(fault) => tell_of_arguments(rt, fault),
     }
 }

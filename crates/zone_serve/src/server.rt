@@ -1,29 +1,30 @@
 //! The server: who may use it, and what it serves.
 
-ghost use Rattle.std.specs.Prelude.{◌≡◌, IfOk, MatchOption, option_map};
+ghost use Rattle.std.specs.Prelude.{◌≡◌, ◌++◌, IfOk, MatchOption, option_map};
+ghost use Rattle.std.specs.List.{flat_map};
 ghost use Rattle.server_limits.specs.Access.{SameNetworks};
+ghost use Rattle.served_keys.specs.ServedKeys.{all_networks, parts_of};
 ghost use Rattle.served_zones.specs.ServedZones.{IsApexText};
-ghost use Rattle.serve_options.specs.Arguments.{transfer_keys_of};
-ghost use Rattle.zone_serve.specs.Catalogs.{denied_transfers};
+ghost use Rattle.zone_serve.specs.Catalogs.{denied_beside};
 
 use crate::fault::Fault;
 use hickory_server::access::IpNet;
 use hickory_server::proto::{NSIDPayload, Name, NameError};
 use hickory_server::server::Rules;
 use serve_options::arguments::Settings;
-use served_keys::networks::with_all;
+use served_keys::networks::{parts, with_all};
 use served_zones::chains::apex;
 use served_zones::identifier::{IdentifierFault, identifier};
 use served_zones::networks::access;
 use std::alloc::{AllocError, Global};
 
-/// The networks that may have no transfer.
-fn denied_transfers(alloc: Global, settings: &Settings<'_>) -> Result<Vec<IpNet>, AllocError>
+/// The networks that may not use the server, unless a longer one is allowed.
+fn denied(alloc: Global, settings: &Settings<'_>) -> Result<Vec<IpNet>, AllocError>
     ensures { IfOk result (λ networks.
-        networks.items ≡ denied_transfers (transfer_keys_of settings.now) settings.now.transfers_denied.items) }
+        networks.items ≡ denied_beside settings.now.allowed.items settings.now.denied.items) }
 {
-    let denied = settings.transfers_denied.as_slice();
-    if settings.transfer_keys.is_empty() {
+    let denied = settings.denied.as_slice();
+    if settings.allowed.is_empty() {
         Vec::from_slice(alloc, denied)
     } else {
         with_all(alloc, denied)
@@ -32,19 +33,24 @@ fn denied_transfers(alloc: Global, settings: &Settings<'_>) -> Result<Vec<IpNet>
 
 /// The rules that the arguments ask for.
 pub fn rules_of(alloc: Global, settings: &Settings<'_>) -> Result<Rules, AllocError>
-    ensures denied { IfOk result (λ rules. SameNetworks settings.now.denied.items rules.access.deny) }
-    ensures allowed { IfOk result (λ rules. SameNetworks settings.now.allowed.items rules.access.allow) }
+    ensures denied { IfOk result
+        (λ rules. SameNetworks (denied_beside settings.now.allowed.items settings.now.denied.items) rules.access.deny) }
+    ensures allowed { IfOk result
+        (λ rules. SameNetworks (flat_map parts_of settings.now.allowed.items) rules.access.allow) }
+    // Nobody has transfers, unless an argument allows it (RFC 5936 section 5).
     ensures transfers_denied { IfOk result
-        (λ rules. SameNetworks (denied_transfers (transfer_keys_of settings.now) settings.now.transfers_denied.items)
-        rules.transfers.deny) }
+        (λ rules. SameNetworks (settings.now.transfers_denied.items ++ all_networks) rules.transfers.deny) }
     ensures transfers_allowed { IfOk result
-        (λ rules. SameNetworks settings.now.transfers_allowed.items rules.transfers.allow) }
+        (λ rules. SameNetworks (flat_map parts_of settings.now.transfers_allowed.items) rules.transfers.allow) }
     ensures limit { IfOk result (λ rules. MatchOption settings.now.max_udp (rules.max_udp ≡ 1232)
         (λ limit. rules.max_udp ≡ limit)) }
 {
-    let server = access(alloc, &settings.denied, &settings.allowed)?;
-    let denied = denied_transfers(alloc, settings)?;
-    let transfers = access(alloc, &denied, &settings.transfers_allowed)?;
+    let denied = denied(alloc, settings)?;
+    let allowed = parts(alloc, &settings.allowed)?;
+    let server = access(alloc, &denied, &allowed)?;
+    let refused = with_all(alloc, &settings.transfers_denied)?;
+    let receivers = parts(alloc, &settings.transfers_allowed)?;
+    let transfers = access(alloc, &refused, &receivers)?;
     Ok(Rules {
         access: server,
         transfers,

@@ -1,10 +1,10 @@
-//! Why the zone of a file is not taken.
+//! Why a zone file is refused.
 
 use hickory_server::zone_text::FileRefusal;
 use served_zones::zone_files::ZoneFault;
 use thiserror::Error;
 
-/// Why the zone of a file is not taken.
+/// Why a zone file is refused.
 #[derive(Clone, Copy, Debug, PartialEq, Eq, Error)]
 pub enum ZoneFileFault {
     /// The file cannot be read.
@@ -13,10 +13,10 @@ pub enum ZoneFileFault {
     /// It is not the file of a zone.
     #[error("{0}")]
     Zone(ZoneFault),
-    /// A file that it includes is none, which was reported.
-    #[error("a file that it includes is not taken")]
+    /// A file that it includes has a fault, which was reported.
+    #[error("a file that it includes has a fault")]
     Included,
-    /// Memory was refused.
+    /// An allocation failed.
     #[error("no memory")]
     Memory,
 }

@@ -1,11 +1,12 @@
 //! What C calls. `host/zone_service.h` says of each what it is given and what it answers.
 
-ghost use Rattle.std.specs.Prelude.{◌≡◌, ◌≢◌, ◌≤◌, ◌⊎◌, ◌↔◌, ◌++◌, ◌∷◌, [], IfOk, IsOk, Some, drop, false, length, min, option_map, take};
-ghost use Rattle.server_limits.specs.Access.{Inserts, SameNetworks};
+ghost use Rattle.std.specs.Prelude.{◌≡◌, ◌≢◌, ◌≤◌, ◌⊎◌, ◌↔◌, ◌++◌, ◌∷◌, [], IfOk, IsOk, None, Some, drop, false, length, min, option_map, take};
+ghost use Rattle.server_limits.specs.Access.{SameNetworks};
 ghost use Rattle.name_lists.specs.Counts.{Counts};
-ghost use Rattle.served_keys.specs.ServedKeys.{AreKeysOfFile, IsKeyNamed, all_networks};
+ghost use Rattle.served_keys.specs.ServedKeys.{AreKeysOfFile, IsKeyNamed};
 ghost use Rattle.served_zones.specs.Grants.{IsGrantOf};
-ghost use Rattle.served_zones.specs.ServedZones.{IsLoadedAs, IsZoneOfFile};
+ghost use Rattle.hickory_catalog.specs.zones.Zones.{ChangesAt};
+ghost use Rattle.served_zones.specs.ServedZones.{IsApexText, IsLoadedAs, IsZoneOfFile};
 ghost use Rattle.served_zones.specs.declared.grants.Grant.{Grant};
 ghost use Rattle.server_reports.specs.Exposition.{exposition_of};
 ghost use Rattle.server_settings.specs.Settings.{IsConfiguration};
@@ -16,11 +17,12 @@ ghost use Rattle.server.specs.Frames.{ArePut};
 ghost use Rattle.server.specs.Limited.{AreLimitsOf, IsLimited};
 ghost use Rattle.server.specs.Lists.{IsListOfText};
 ghost use Rattle.signed_server.specs.KeyedServers.{keyed_of};
-ghost use Rattle.server.specs.Networks.{InsertsText};
+ghost use Rattle.server.specs.Networks.{AllowsText, InsertsText};
 ghost use Rattle.server.specs.Serving.{Stays, waiting_in};
 ghost use Rattle.server.specs.Settings.{IsUnset, rules_of, with_identifier, with_keys, with_rules, with_transfer_keys, with_zones, zones_of};
 ghost use Rattle.server.specs.Updates.{AreServed};
 ghost use Rattle.wire_names.specs.rr.domain.DomainName.{DomainName};
+ghost use Rattle.wire_names.specs.rr.domain.NameOrder.{lower_name};
 
 use hickory_server::zone_handler::{ReplySigner, ZoneHandler};
 use name_lists::ListReport;
@@ -213,6 +215,25 @@ pub extern "C" fn zone_service_add_zone(
     told(alloc, service.add_zone(alloc, name, text), fault, count)
 }
 
+/// Answers SERVFAIL to each query for the zone of this name, of which no file is taken.
+#[unsafe(no_mangle)]
+pub extern "C" fn zone_service_fail_zone(
+    alloc: Global,
+    service: &mut Handle,
+    name: &[u8],
+    fault: &mut [u8],
+    count: &mut usize,
+) -> u32
+    ensures made { result ≡ 0 → (apex : DomainName) × IsApexText name.now apex ×
+        (service.new.service.apexes.items ≡ service.old.service.apexes.items ++ apex ∷ []) ×
+        ChangesAt (zones_of service.old.service) (lower_name apex) None (Some []) (zones_of service.new.service) }
+    ensures others { service.new.service ≡ with_zones
+        (record service.old.service { apexes = service.new.service.apexes }) (zones_of service.new.service) }
+{
+    let service = service.service();
+    told(alloc, service.fail_zone(alloc, name), fault, count)
+}
+
 /// Takes the keys that a text has: BIND's `key` statements, Knot's `key` section, or lines as `dig -y` takes them.
 #[unsafe(no_mangle)]
 pub extern "C" fn zone_service_set_keys(
@@ -229,8 +250,7 @@ pub extern "C" fn zone_service_set_keys(
     told(alloc, service.set_keys(alloc, text), fault, count)
 }
 
-/// Lets requests that the key of this name signed have transfers from anywhere, and keeps transfers from all networks
-/// but those that are allowed.
+/// Lets requests that the key of this name signed have transfers from anywhere.
 #[unsafe(no_mangle)]
 pub extern "C" fn zone_service_allow_transfer_key(
     alloc: Global,
@@ -241,13 +261,8 @@ pub extern "C" fn zone_service_allow_transfer_key(
 ) -> u32
     ensures made { result ≡ 0 → (key : DomainName) × IsKeyNamed service.old.service.answering.server.keys name.now key ×
         (service.new.service.answering.server.transfer_keys.items ≡
-        service.old.service.answering.server.transfer_keys.items ++ key ∷ []) ×
-        Inserts (rules_of service.old.service).transfers.deny all_networks
-        (rules_of service.new.service).transfers.deny }
-    ensures allowed { SameNetworks (rules_of service.old.service).transfers.allow
-        (rules_of service.new.service).transfers.allow }
-    ensures others { service.new.service ≡ with_transfer_keys (with_rules service.old.service
-        (record (rules_of service.old.service) { transfers = (rules_of service.new.service).transfers }))
+        service.old.service.answering.server.transfer_keys.items ++ key ∷ []) }
+    ensures others { service.new.service ≡ with_transfer_keys service.old.service
         service.new.service.answering.server.transfer_keys }
 {
     let service = service.service();
@@ -289,7 +304,7 @@ pub extern "C" fn zone_service_serve_zones(
     told(alloc, service.serve_zones(alloc), fault, count)
 }
 
-/// Lets the addresses of a network use the server.
+/// Lets the addresses of a network use the server. All others may not, unless another call allows them.
 #[unsafe(no_mangle)]
 pub extern "C" fn zone_service_set_allowed(
     alloc: Global,
@@ -298,15 +313,13 @@ pub extern "C" fn zone_service_set_allowed(
     fault: &mut [u8],
     count: &mut usize,
 ) -> u32
-    ensures made { result ≡ 0 → InsertsText network.now (rules_of service.old.service).access.allow
-        (rules_of service.new.service).access.allow }
-    ensures denied { SameNetworks (rules_of service.old.service).access.deny
-        (rules_of service.new.service).access.deny }
+    ensures made { result ≡ 0 → AllowsText network.now (rules_of service.old.service).access
+        (rules_of service.new.service).access }
     ensures others { service.new.service ≡ with_rules service.old.service
         (record (rules_of service.old.service) { access = (rules_of service.new.service).access }) }
 {
     let service = service.service();
-    told(alloc, service.allow(network), fault, count)
+    told(alloc, service.allow(alloc, network), fault, count)
 }
 
 /// Keeps the addresses of a network from the server.
@@ -338,18 +351,16 @@ pub extern "C" fn zone_service_set_transfer_allowed(
     fault: &mut [u8],
     count: &mut usize,
 ) -> u32
-    ensures made { result ≡ 0 → InsertsText network.now (rules_of service.old.service).transfers.allow
-        (rules_of service.new.service).transfers.allow }
-    ensures denied { SameNetworks (rules_of service.old.service).transfers.deny
-        (rules_of service.new.service).transfers.deny }
+    ensures made { result ≡ 0 → AllowsText network.now (rules_of service.old.service).transfers
+        (rules_of service.new.service).transfers }
     ensures others { service.new.service ≡ with_rules service.old.service
         (record (rules_of service.old.service) { transfers = (rules_of service.new.service).transfers }) }
 {
     let service = service.service();
-    told(alloc, service.allow_transfer(network), fault, count)
+    told(alloc, service.allow_transfer(alloc, network), fault, count)
 }
 
-/// Keeps transfers from the addresses of a network.
+/// Keeps transfers from the addresses of a network, which is part of an allowed one.
 #[unsafe(no_mangle)]
 pub extern "C" fn zone_service_set_transfer_denied(
     alloc: Global,

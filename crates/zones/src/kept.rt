@@ -1,12 +1,15 @@
 //! What keeps the records of a zone: memory, or a journal too.
 
-ghost use Rattle.std.specs.Prelude.{◌≡◌, IfSome, IsTrue, OnErr, false, is_some, option_copied, true};
+ghost use Rattle.std.specs.Prelude.{◌≡◌, ◌⊎◌, IfErr, IfOk, IfSome, IsTrue, OnErr, OnOk, false, is_some, option_copied, true};
 ghost use Rattle.durable_updates.specs.DurableUpdates.{AnswersDurably};
 ghost use Rattle.durable_updates.specs.Holding.{AreFilesOf};
-ghost use Rattle.durable_updates.specs.Recorded.{IsDurable};
+ghost use Rattle.durable_updates.specs.OpenErrors.{is_no_journal};
+ghost use Rattle.durable_updates.specs.Recorded.{IsDurable, IsHandedBack, IsRefused};
+ghost use Rattle.durable_updates.specs.Versions.{AreFollowed};
+ghost use Rattle.sqlite_disk.specs.Disk.{Only};
 ghost use Rattle.zones.specs.KeptZones.{kept_zone};
 
-use durable_updates::{HoldingZone, UpdateAnswer};
+use durable_updates::{HoldingZone, JournalledZone, OpenError, UpdateAnswer};
 use hickory_base::server::Request;
 use hickory_base::zone_store::ZoneHandler;
 use hickory_store::updates::{UpdatableZoneHandler, Verifier};
@@ -14,6 +17,10 @@ use journal::Journal;
 use journal::host_file::OwnedDisk;
 use sqlite_disk::Disk;
 use std::alloc::Global;
+use zone_differences::History;
+
+/// Half of the number of records of transfers that the history of a small zone may have.
+pub(crate) const LEAST_RECORDS: usize = 100;
 
 /// What keeps the records of a zone.
 #[derive(Drop)]
@@ -32,6 +39,44 @@ impl<V: Verifier, D: Disk + Drop> Kept<V, D> {
         match self {
             Kept::Memory(zone) => zone,
             Kept::Journal(zone) => zone.zone(),
+        }
+    }
+
+    /// Opens the journal that two files are in turns, in place of the one that there was, if any, as
+    /// [`JournalledZone::open_followed`] does. After an error all is as it was, and the files are handed back.
+    pub(crate) fn opened(
+        self,
+        files: (Global, D, D),
+    ) -> (Kept<V, D>, Result<History, (OpenError, D, D)>)
+        requires usable { IsTrue (D.is_usable files.1) × IsTrue (D.is_usable files.2) }
+        requires restarted { Only (D.seen files.1) (D.may_leave files.1) ×
+            Only (D.seen files.2) (D.may_leave files.2) }
+        ensures followed { IfOk result.1 (λ history. AreFollowed D.Disk files.1 files.2 (kept_zone self).updatable.zone
+            history (kept_zone result.0).updatable.zone) }
+        ensures others { OnOk result.1 (kept_zone result.0 ≡ record {
+          updatable = record (kept_zone self).updatable { zone = (kept_zone result.0).updatable.zone };
+          is_journalled = true;
+          holds = false;
+        }) }
+        ensures kept { OnErr result.1 (result.0 ≡ self) }
+        ensures err { IfErr result.1 (λ e. IsHandedBack D.Disk files.1 e.1 × IsHandedBack D.Disk files.2 e.2) }
+        ensures refused { IfErr result.1 (λ e. IsTrue (is_no_journal e.0) → IsRefused D.Disk files.1 e.1 ⊎
+            IsRefused D.Disk files.2 e.2) }
+    {
+        let (alloc, first, second) = files;
+        match self {
+            Kept::Memory(zone) => {
+                match JournalledZone::open_followed(alloc, zone, first, second, LEAST_RECORDS) {
+                    Ok((zone, history)) => (Kept::Journal(HoldingZone::new(zone)), Ok(history)),
+                    Err((error, zone, first, second)) => {
+                        (Kept::Memory(zone), Err((error, first, second)))
+                    }
+                }
+            }
+            Kept::Journal(zone) => {
+                let (zone, opened) = zone.reopened(alloc, first, second, LEAST_RECORDS);
+                (Kept::Journal(zone), opened)
+            }
         }
     }
 

@@ -1,6 +1,6 @@
 //! A zone, what keeps it, and what is known of it.
 
-ghost use Rattle.std.specs.Prelude.{◌≡◌, ◌⊎◌, ◌↔◌, IfErr, IfOk, IfSome, IsTrue, [], false, is_some, not, option_copied, true};
+ghost use Rattle.std.specs.Prelude.{◌≡◌, ◌⊎◌, ◌↔◌, IfErr, IfSome, IsTrue, OnErr, OnOk, [], false, is_some, not, option_copied, true};
 ghost use Rattle.hickory_base.specs.zone_store.ZoneAnswers.{soa_serial, zone_soa};
 ghost use Rattle.durable_updates.specs.Holding.{AreFilesOf};
 ghost use Rattle.durable_updates.specs.OpenErrors.{is_no_journal};
@@ -11,9 +11,10 @@ ghost use Rattle.zones.specs.Journals.{IsOpened};
 ghost use Rattle.zones.specs.KeptZones.{kept_zone};
 ghost use Rattle.zones.specs.ZoneStates.{zone_state};
 
-use crate::kept::Kept;
+use crate::kept::{Kept, LEAST_RECORDS};
 use crate::overview::Overview;
-use durable_updates::{CompactError, HoldingZone, JournalledZone, OpenError};
+use core::mem::replace_with;
+use durable_updates::{CompactError, OpenError};
 use hickory_store::updates::{UpdatableZoneHandler, Verifier};
 use journal::Journal;
 use journal::host_file::OwnedDisk;
@@ -22,9 +23,6 @@ use std::alloc::Global;
 use std::marker::Model;
 use update_policy::Policy;
 use zone_differences::History;
-
-/// Half of the number of records of transfers that the history of a small zone may have.
-const LEAST_RECORDS: usize = 100;
 
 /// A zone, which answers standard queries as RFC 1034 section 4.3.2 says, and takes the updates that its rules grant.
 ///
@@ -105,27 +103,23 @@ impl<V: Verifier, D: Disk + Drop> Zone<V, D> {
     ///
     /// # Errors
     ///
-    /// The files are handed back, and the zone is gone. If one of them is no journal's, nothing was written to it.
-    pub fn open(self, alloc: Global, first: D, second: D) -> Result<Zone<V, D>, (OpenError, D, D)>
+    /// After an error the zone is as it was, and the files are handed back. If one of them is no journal's, nothing was
+    /// written to it.
+    pub fn open(&mut self, alloc: Global, first: D, second: D) -> Result<(), (OpenError, D, D)>
         requires usable { IsTrue (D.is_usable first) × IsTrue (D.is_usable second) }
         // After a restart, what is read is what is on the disk.
         requires restarted { Only (D.seen first) (D.may_leave first) × Only (D.seen second) (D.may_leave second) }
-        ensures opened { IfOk result (IsOpened D.Disk first second self) }
+        ensures opened { OnOk result (IsOpened D.Disk first second self.old self.new) }
+        ensures kept { OnErr result (self.new ≡ self.old) }
         ensures err { IfErr result (λ e. IsHandedBack D.Disk first e.1 × IsHandedBack D.Disk second e.2) }
         ensures refused { IfErr result (λ e. IsTrue (is_no_journal e.0) → IsRefused D.Disk first e.1 ⊎
             IsRefused D.Disk second e.2) }
     {
-        let Zone {
-            kept,
-            overview: _,
-            history: _,
-            policy,
-        } = self;
-        let (zone, _) = kept.into_parts();
-        match JournalledZone::open_followed(alloc, zone, first, second, LEAST_RECORDS) {
-            Ok((zone, history)) => {
-                let kept = Kept::Journal(HoldingZone::new(zone));
-                Ok(Zone::of(alloc, kept, history, policy))
+        match replace_with(&mut self.kept, (alloc, first, second), Kept::opened) {
+            Ok(history) => {
+                self.overview = Overview::of(alloc, self.kept.updatable().in_memory());
+                self.history = history;
+                Ok(())
             }
             Err(e) => Err(e),
         }

@@ -1,7 +1,6 @@
 -- What is found, where it lies.
 use Rattle.std.specs.Prelude.{◌≡◌, ◌∷◌, [], ◌⊎◌, ◌↔◌, ◌&&◌, ◌-◌, ◌<◌, ◌≤◌, ℕ, nat_le, nat_lt, Bool, true, false, IsTrue, List, length, drop, Option, Some, None}
 use Rattle.std.specs.Borrow.{Bor}
-use Rattle.std.specs.List.{Contains}
 use Rattle.std.specs.Option.{IsSomeAnd, option_copied}
 use Rattle.wire_names.specs.rr.domain.DomainName.{AreLabels, DomainName, cut, wire_form}
 use Rattle.wire_names.specs.rr.domain.NameOrder.{Encloses, lower_labels}
@@ -10,8 +9,10 @@ use Rattle.wire_messages.specs.declared.rr.rr_key.RrKey.{RrKey}
 use Rattle.hickory_base.specs.zone_store.ZoneAnswers.{records_at}
 use Rattle.hickory_zone.specs.Zones.{Records, Sets, Zone, any_of, at_node, Delegates, Exists, HasClosestEncloser, HasDname, IsAuthoritativeAt, IsCut, Outcome, Redirects, answer, alias, referral, no_data, no_name, redirection, ancestor, by_wildcard, rrset, wild_alias, wild_answer, wildcard}
 use Rattle.hickory_zone.specs.representation.Features.{IsOfLength}
+use Rattle.hickory_zone.specs.representation.Indexes.{IsClearAt}
 use Rattle.hickory_zone.specs.representation.KeysBeside.{Entry}
 use Rattle.hickory_zone.specs.declared.features.Features.{Features}
+use Rattle.hickory_zone.specs.declared.index.Before.{Before}
 use Rattle.hickory_zone.specs.declared.find.Found.{Found}
 use Rattle.hickory_zone.specs.declared.find.Found.TheVariants as found
 use Rattle.hickory_zone.specs.declared.find.Neighbours.{Neighbours}
@@ -39,10 +40,11 @@ abbrev pub missing_outcome : Option Records → Outcome
 missing_outcome (Some servers) = referral servers
 missing_outcome None = no_name
 
--- Among the entries are these records, of the type, of the wildcard right below the name above this one.
-pub record IsWildAmong (entries : List Entry) (name : DomainName) (t : ℕ) (rs : Records) : Type 0 where
+-- Among the sets, without a mark, are these records, of the type, of the wildcard right below the name above this one.
+pub record IsWildAmong (before : Before) (name : DomainName) (t : ℕ) (rs : Records) : Type 0 where
+  pub place : ℕ
   pub entry : Entry
-  pub among : Contains entries entry
+  pub among : IsClearAt before.sets.now before.marks.now place entry
   pub is : entry.0.name.labels ≡ (42 ∷ []) ∷ drop 1 name.labels
   pub of_type : entry.0.record_type ≡ t
   pub records : entry.1.value ≡ rs

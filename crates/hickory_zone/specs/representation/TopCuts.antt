@@ -1,21 +1,21 @@
 -- The cuts of a zone that no other cut is above (RFC 1034 section 4.2).
-use Rattle.std.specs.Prelude.{◌≡◌, ◌⊎◌, ◌-◌, List, [], ◌∷◌, IfSome, length, Option, Some, true}
-use Rattle.std.specs.List.{All, Contains, slice_get}
+use Rattle.std.specs.Prelude.{◌≡◌, ◌⊎◌, ◌-◌, ◌≤◌, ℕ, Bool, List, [], ◌∷◌, IfSome, length, Option, None, Some, false, true}
+use Rattle.std.specs.List.{All, AllByRecursion, Contains, slice_get}
 use Rattle.std.specs.Option.{IsSomeAnd, option_copied, option_map}
 use Rattle.std.specs.declared.alloc.Global.{Global}
 use Rattle.std.specs.declared.vec.Vec.{Vec}
 use Rattle.wire_names.specs.rr.domain.DomainName.{DomainName}
-use Rattle.wire_names.specs.rr.domain.NameOrder.{Encloses}
+use Rattle.wire_names.specs.rr.domain.NameOrder.{Encloses, lower_name}
 use Rattle.wire_messages.specs.Numbers.{type_ns}
 use Rattle.wire_messages.specs.declared.rr.rr_key.RrKey.{RrKey}
 use Rattle.wire_messages.specs.declared.rr.rdata.RData.{RData}
 use Rattle.wire_messages.specs.declared.rr.record.Record.{Record}
 use Rattle.hickory_zone.specs.declared.additionals.Source.TheVariants as source
-use Rattle.hickory_zone.specs.Additionals.{AreAdditionals}
+use Rattle.hickory_zone.specs.Additionals.{AreAdditionals, host_in}
 use Rattle.hickory_zone.specs.declared.cuts.Cut.{Cut}
 use Rattle.hickory_zone.specs.declared.cuts.Cuts.{Cuts}
 use Rattle.hickory_zone.specs.declared.cuts.TopCut.{TopCut}
-use Rattle.hickory_zone.specs.representation.Indexes.{IsSearched}
+use Rattle.hickory_zone.specs.representation.Indexes.{IsPlaceOf, IsSearched}
 use Rattle.hickory_zone.specs.representation.KeysBeside.{Entry}
 use Rattle.hickory_zone.specs.Zones.{IsCut, Records, Zone, rrset}
 
@@ -53,12 +53,42 @@ pub record IsAt (cuts : List Entry) (top : TopCut) : Type 0 where
   pub is : slice_get cuts top.place ≡ Some entry
   pub servers : entry.1.value ≡ top.servers.now
 
+-- The values of both lists belong together, each to the one at its place.
+abbrev pub AreEach : {X Y : Type 0} → (X → Y → Type 0) → List X → List Y → Type 0
+AreEach R [] [] = Unit {0}
+AreEach R (x ∷ xs) (y ∷ ys) = R x y × AreEach R xs ys
+AreEach R xs ys = ⊥
+
 -- Those are the addresses of the servers at each cut that stand in the zone, as a referral has them (RFC 1034 section
 -- 4.3.2, step 3b).
 abbrev pub AreGlueOf : Zone → List Entry → List (Vec (Record RData) Global) → Type 0
-AreGlueOf zone [] [] = Unit {0}
-AreGlueOf zone (e ∷ es) (glue ∷ all) = AreAdditionals source.Glue zone [] e.1.value glue.items × AreGlueOf zone es all
-AreGlueOf zone es all = ⊥
+AreGlueOf zone cuts all = AreEach (λ e glue. AreAdditionals source.Glue zone [] e.1.value glue.items) cuts all
+
+-- the place of a host's name among the sets, and none if it is outside of the zone
+abbrev pub IsPlaceOfHost : DomainName → List Entry → DomainName → Option ℕ → Type 0
+IsPlaceOfHost apex entries host None = ¬ (Encloses apex.labels host.labels)
+IsPlaceOfHost apex entries host (Some place) = IsPlaceOf (record { name = host; record_type = 0 }) entries place × (place ≤ length entries)
+
+-- that of the host that a record names, if it names one
+abbrev pub IsHostPlace : DomainName → List Entry → Record RData → Option ℕ → Type 0
+IsHostPlace apex entries r place = IfSome (host_in r.rdata) (λ host. IsPlaceOfHost apex entries (lower_name host) place)
+
+-- Those are the places of the servers at each cut.
+abbrev pub AreHostsOf : DomainName → List Entry → List Entry → List (Vec (Option ℕ) Global) → Type 0
+AreHostsOf apex entries cuts all = AreEach (λ e places. AreEach (IsHostPlace apex entries) e.1.value places.items) cuts all
+
+-- There is no mark at the place of a host, if it has one.
+abbrev pub IsClearHost : List Bool → Option ℕ → Type 0
+IsClearHost marks place = IfSome place (λ n. slice_get marks n ≡ Some false)
+
+-- These are the addresses at the place of a cut, and there is no mark at the places of its servers.
+pub record IsClearGlue (marks : List Bool) (hosts : List (Vec (Option ℕ) Global)) (glue : List (Vec (Record RData) Global)) (place : ℕ) (rs : Records) : Type 0 where
+  pub places : Vec (Option ℕ) Global
+  pub hosts_there : slice_get hosts place ≡ Some places
+  pub clear : AllByRecursion (IsClearHost marks) places.items
+  pub section : Vec (Record RData) Global
+  pub there : slice_get glue place ≡ Some section
+  pub records : rs ≡ section.items
 
 -- the servers of a cut, if there is one
 abbrev pub servers_at : Option Cut → Option Records

@@ -1,9 +1,5 @@
 use Rattle.std.proofs.Common.{None, inr, subst, sym}
 use Rattle.std.specs.Option.{option_copied}
-use Rattle.std.specs.List.Sorted.{IsStrictlySortedBy}
-use Rattle.std.specs.Map.{keys_of}
-use Rattle.wire_messages.specs.rr.RrKeys.{key_cmp}
-use Rattle.hickory_base.proofs.lemmas.zone_store.ZoneByName.{keys-shared}
 use Rattle.hickory_base.specs.zone_store.ZoneSets.{sets_of}
 use Rattle.hickory_zone.proofs.lemmas.zones.Missing.{answered_bare, none_wild}
 use Rattle.hickory_zone.proofs.lemmas.zones.Wild.{told}
@@ -28,7 +24,6 @@ pub returns-in-Some : goal.returns-in-Some
 returns-in-Some c =
     let zone : Zone = record { origin = c.args.origin.now; sets = sets_of c.args.sets.now } in
     let name = c.args.first.now.name in
-    let sorted : IsStrictlySortedBy key_cmp (keys_of zone.sets) = subst (IsStrictlySortedBy key_cmp) (sym (keys-shared c.args.sets.now.entries)) c.requires.behind.ordered in
     subst (Answers zone name c.args.record_type) (sym (c.found_wild_answer.ensures zone.sets name))
-    (answered_wild zone name c.args.record_type c.args.before.now c.in-Some.records c.requires.qualified c.requires.owners sorted c.requires.before c.in-Some.ensures.2
+    (answered_wild zone name c.args.record_type c.args.before c.in-Some.records c.requires.qualified c.requires.owners c.requires.before c.in-Some.ensures.2
     c.args.has (option_copied c.args.above) c.requires.features c.in-Some.ensures.0 c.in-Some.ensures.1 c.requires.missing c.requires.above)

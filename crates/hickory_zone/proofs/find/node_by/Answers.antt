@@ -1,13 +1,11 @@
-use Rattle.std.proofs.Common.{◌∙◌, sym, subst}
+use Rattle.std.proofs.Common.{◌∙◌, refl, sym, subst}
 use Rattle.std.specs.Prelude.{IfSome}
-use Rattle.std.specs.List.{Contains}
 use Rattle.std.specs.List.Sorted.{IsStrictlySortedBy}
 use Rattle.std.specs.Option.{option_copied}
 use Rattle.wire_messages.specs.rr.RrKeys.{key_cmp}
 use Rattle.hickory_base.proofs.lemmas.zone_store.ZoneByName.{keys-shared}
 use Rattle.hickory_base.specs.zone_store.ZoneSets.{sets_of}
 use Rattle.hickory_zone.specs.representation.Indexes.{IsIndexOf}
-use Rattle.hickory_zone.proofs.lemmas.zones.Indexed.{among_sets}
 use Rattle.hickory_zone.proofs.lemmas.zones.Kept.{still_has}
 use Rattle.hickory_zone.proofs.find.node_by.Goals as goal
 use Rattle.hickory_zone.proofs.find.node_by.Goals.{Then-node}
@@ -33,8 +31,4 @@ returns-then-node-clause-behind c =
     c.node_in-node.ensures.behind c.args.origin.now c.args.sets.now (of c) (subst (IsStrictlySortedBy key_cmp) (sym (keys-shared c.args.sets.now.entries)) c.len.ensures.ordered) c.if-node.true
 
 pub returns-then-node-clause-before : goal.returns-then-node-clause-before
-returns-then-node-clause-before c =
-    λ e among.
-    let k = c.node_in-node.ensures.before e among in
-    let there = k.1 in
-    subst (λ s. Contains s (e.0, e.1.value)) ((of c).whole k.0) (among_sets c.in-Some.index.now.entries there.0 e there.1 there.2)
+returns-then-node-clause-before c = λ place e clear. (of c).held place e (c.node_in-node.ensures.before place e clear) refl

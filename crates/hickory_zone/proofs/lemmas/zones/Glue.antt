@@ -1,4 +1,4 @@
--- The addresses of the servers at each cut.
+-- Values that belong together, each to the one at its place, such as the addresses of the servers at each cut.
 use Rattle.std.proofs.Common.{◌≡◌, ℕ, zero, suc, ◌+◌, ◌<◌, List, [], ◌∷◌, ◌++◌, take, length, get_or, Some, sym, subst, ap, arith}
 use Rattle.std.specs.Prelude.{slice_get}
 use Rattle.std.specs.declared.alloc.Global.{Global}
@@ -7,8 +7,7 @@ use Rattle.wire_messages.specs.declared.rr.rdata.RData.{RData}
 use Rattle.wire_messages.specs.declared.rr.record.Record.{Record}
 use Rattle.hickory_zone.specs.declared.additionals.Source.TheVariants as source
 use Rattle.hickory_zone.specs.Additionals.{AreAdditionals}
-use Rattle.hickory_zone.specs.representation.KeysBeside.{Entry}
-use Rattle.hickory_zone.specs.representation.TopCuts.{AreGlueOf}
+use Rattle.hickory_zone.specs.representation.TopCuts.{AreEach}
 use Rattle.hickory_zone.specs.Zones.{Records, Zone}
 
 abbrev pub Section : Type 0
@@ -18,29 +17,29 @@ Section = Vec (Record RData) Global
 abbrev pub IsGlueOf : Zone → Records → Section → Type 0
 IsGlueOf zone servers glue = AreAdditionals source.Glue zone [] servers glue.items
 
-pub glue_at : (zone : Zone) (es : List Entry) (all : List Section) (i : ℕ) (e : Entry) (glue : Section) → AreGlueOf zone es all → slice_get es i ≡ Some e → glue ≡ get_or all i glue → IsGlueOf zone e.1.value glue
-glue_at zone [] all i e glue are at is = absurd cc
-glue_at zone (x ∷ es) [] i e glue are at is = absurd are
-glue_at zone (x ∷ es) (g ∷ all) zero e glue are at is =
-    let own : x ≡ e = cc in
-    subst (λ (y : Entry). IsGlueOf zone y.1.value glue) own (subst (IsGlueOf zone x.1.value) (sym is) are.0)
-glue_at zone (x ∷ es) (g ∷ all) (suc i) e glue are at is = glue_at zone es all i e glue are.1 at is
+module _ {X Y : Type 0} (R : X → Y → Type 0) where
+  some_is : {A : Type 0} {x y : A} → Some x ≡ Some y → x ≡ y
+  some_is e = cc
 
-pub one_more : (zone : Zone) (es : List Entry) (all : List Section) (e : Entry) (glue : Section) → AreGlueOf zone es all → IsGlueOf zone e.1.value glue → AreGlueOf zone (es ++ e ∷ []) (all ++ glue ∷ [])
-one_more zone [] [] e glue are is = (is, tt)
-one_more zone [] (g ∷ all) e glue are is = absurd are
-one_more zone (x ∷ es) [] e glue are is = absurd are
-one_more zone (x ∷ es) (g ∷ all) e glue are is = (are.0, one_more zone es all e glue are.1 is)
+  pub each_at : (xs : List X) (ys : List Y) (i : ℕ) (x : X) (y : Y) → AreEach R xs ys → slice_get xs i ≡ Some x → slice_get ys i ≡ Some y → R x y
+  each_at [] ys i x y are at is = absurd cc
+  each_at (z ∷ xs) [] i x y are at is = absurd cc
+  each_at (z ∷ xs) (w ∷ ys) zero x y are at is = subst (λ v. R x v) (some_is is) (subst (λ v. R v w) (some_is at) are.0)
+  each_at (z ∷ xs) (w ∷ ys) (suc i) x y are at is = each_at xs ys i x y are.1 at is
 
-next_taken : (es : List Entry) (i : ℕ) (e : Entry) → i < length es → e ≡ get_or es i e → take (suc i) es ≡ take i es ++ e ∷ []
-next_taken [] i e h is = absurd (omega arith)
-next_taken (x ∷ es) zero e h is = ap (λ (y : Entry). y ∷ []) (sym is)
-next_taken (x ∷ es) (suc i) e h is = ap (λ (ys : List Entry). x ∷ ys) (next_taken es i e (omega arith) is)
+  pub one_more : (xs : List X) (ys : List Y) (x : X) (y : Y) → AreEach R xs ys → R x y → AreEach R (xs ++ x ∷ []) (ys ++ y ∷ [])
+  one_more [] [] x y are is = (is, tt)
+  one_more [] (w ∷ ys) x y are is = absurd are
+  one_more (z ∷ xs) [] x y are is = absurd are
+  one_more (z ∷ xs) (w ∷ ys) x y are is = (are.0, one_more xs ys x y are.1 is)
 
--- the walk over the cuts, one further
-pub walks_on : (zone : Zone) (es : List Entry) (i : ℕ) (e : Entry) (all : List Section) (glue : Section) → i < length es → e ≡ get_or es i e → AreGlueOf zone (take i es) all → IsGlueOf zone e.1.value glue
-    → AreGlueOf zone (take (i + 1) es) (all ++ glue ∷ [])
-walks_on zone es i e all glue h is are own =
-    let next : suc i ≡ i + 1 = omega arith in
-    subst (λ n. AreGlueOf zone (take n es) (all ++ glue ∷ [])) next
-    (subst (λ (ys : List Entry). AreGlueOf zone ys (all ++ glue ∷ [])) (sym (next_taken es i e h is)) (one_more zone (take i es) all e glue are own))
+  next_taken : (xs : List X) (i : ℕ) (x : X) → i < length xs → x ≡ get_or xs i x → take (suc i) xs ≡ take i xs ++ x ∷ []
+  next_taken [] i x h is = absurd (omega arith)
+  next_taken (z ∷ xs) zero x h is = ap (λ (v : X). v ∷ []) (sym is)
+  next_taken (z ∷ xs) (suc i) x h is = ap (λ (vs : List X). z ∷ vs) (next_taken xs i x (omega arith) is)
+
+  -- a walk over the first ones, one further
+  pub walks_on : (xs : List X) (i : ℕ) (x : X) (ys : List Y) (y : Y) → i < length xs → x ≡ get_or xs i x → AreEach R (take i xs) ys → R x y → AreEach R (take (i + 1) xs) (ys ++ y ∷ [])
+  walks_on xs i x ys y h is are own =
+      let next : suc i ≡ i + 1 = omega arith in
+      subst (λ n. AreEach R (take n xs) (ys ++ y ∷ [])) next (subst (λ (vs : List X). AreEach R vs (ys ++ y ∷ [])) (sym (next_taken xs i x h is)) (one_more (take i xs) ys x y are own))

@@ -1,7 +1,7 @@
 -- An index tells what a zone has of a name whose place has no mark.
 use Rattle.std.proofs.Common.{◌≡◌, ◌<◌, ℕ, zero, suc, Bool, true, false, cond, not, List, [], ◌∷◌, take, drop, length, Option, Some, None, refl, sym, ap, subst, ◌∙◌, arith}
 use Rattle.std.specs.Prelude.{is_some, slice_get, slice_index_or}
-use Rattle.std.specs.List.{AllByRecursion, Contains}
+use Rattle.std.specs.List.{AllByRecursion}
 use Rattle.std.specs.List.Sorted.{IsStrictlySortedBy}
 use Rattle.std.specs.Map.{keys_of, lookup}
 use Rattle.std.specs.Option.{option_map}
@@ -98,7 +98,7 @@ some_value f (Some x) = refl
 held_is : (es : List Entry) (q : RrKey) → is_some (rrset (shared_sets es) q.name q.record_type) ≡ is_some (lookup (is_at (key_cmp q)) es)
 held_is es q = ap is_some (lookup-shared (is_key q.name q.record_type) es) ∙ some_value (λ s. s.value) (lookup (is_key q.name q.record_type) es)
 
-both_up_to : (o p : Ordering) → p ≡ ordering_reverse o → is_gt o ≡ false → is_gt p ≡ false → o ≡ Equal
+pub both_up_to : (o p : Ordering) → p ≡ ordering_reverse o → is_gt o ≡ false → is_gt p ≡ false → o ≡ Equal
 both_up_to Less p e f g = absurd (let h : is_gt p ≡ true = ap is_gt e in cc)
 both_up_to Equal p e f g = refl
 both_up_to Greater p e f g = absurd cc
@@ -177,9 +177,9 @@ clear_at (false ∷ marks) zero h clear = refl
 clear_at (m ∷ marks) (suc i) h clear = clear_at marks i (omega arith) clear
 
 -- what is in a front of entries is in them
-pub taken : (es : List Entry) (n : ℕ) (e : Entry) → Contains (take n es) e → Contains es e
-taken [] zero e there = there
-taken [] (suc n) e there = there
-taken (x ∷ es) zero e there = absurd (omega (arith, there.1))
-taken (x ∷ es) (suc n) e (zero, h, is) = (0, omega arith, is)
-taken (x ∷ es) (suc n) e (suc k, h, is) = let rest = taken es n e (k, omega arith, is) in (suc rest.0, omega (arith, rest.1), rest.2)
+pub taken : (es : List Entry) (n place : ℕ) (e : Entry) → slice_get (take n es) place ≡ Some e → slice_get es place ≡ Some e
+taken [] zero place e there = there
+taken [] (suc n) place e there = there
+taken (x ∷ es) zero place e there = absurd cc
+taken (x ∷ es) (suc n) zero e there = there
+taken (x ∷ es) (suc n) (suc place) e there = taken es n place e there

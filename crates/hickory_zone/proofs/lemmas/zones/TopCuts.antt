@@ -42,13 +42,13 @@ not_gt_of_less o e = ap is_gt e
 
 module _ {X : Type 0} (P : X → Type 0) where
   -- what stands in front, and behind
-  in_front : (xs : List X) (n i : ℕ) (x : X) → AllByRecursion P (take n xs) → i < n → slice_get xs i ≡ Some x → P x
+  pub in_front : (xs : List X) (n i : ℕ) (x : X) → AllByRecursion P (take n xs) → i < n → slice_get xs i ≡ Some x → P x
   in_front [] n i x all h is = absurd cc
   in_front (y ∷ xs) zero i x all h is = absurd (omega arith)
   in_front (y ∷ xs) (suc n) zero x all h is = subst P (some_same is) all.0
   in_front (y ∷ xs) (suc n) (suc i) x all h is = in_front xs n i x all.1 (omega arith) is
 
-  from_there : (xs : List X) (n i : ℕ) (x : X) → AllByRecursion P (drop n xs) → n ≤ i → slice_get xs i ≡ Some x → P x
+  pub from_there : (xs : List X) (n i : ℕ) (x : X) → AllByRecursion P (drop n xs) → n ≤ i → slice_get xs i ≡ Some x → P x
   from_there [] n i x all h is = absurd cc
   from_there (y ∷ xs) zero zero x all h is = subst P (some_same is) all.0
   from_there (y ∷ xs) zero (suc i) x all h is = from_there xs zero i x all.1 (omega arith) is

@@ -83,7 +83,7 @@ module _ (name : DomainName) (t : ℕ) (key : RrKey) (is : is_key name t key ≡
   parts : (is_eq (name_cmp name key.name) ≡ true) × ((t == key.record_type) ≡ true)
   parts = both _ _ (sym (eq_then (name_cmp name key.name) (nat_cmp t key.record_type) ∙ ap (λ b. is_eq (name_cmp name key.name) && b) (eq_numbers t key.record_type)) ∙ is)
 
-  same_name : SameName name key.name
+  pub same_name : SameName name key.name
   same_name = same_from_eq name key.name parts.0
 
   same_type : key.record_type ≡ t

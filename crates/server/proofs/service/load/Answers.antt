@@ -1,13 +1,11 @@
-use Rattle.server.proofs.Results.{none_is}
 use Rattle.server.proofs.service.load.Goals as goal
 
-pub returns-then-branch-clause-loaded : goal.returns-then-branch-clause-loaded
-returns-then-branch-clause-loaded c =
-    let (was, changes, fresh) = c.in_ok-put_chain.ensures.put in record {
-      spelled = c.in_ok-apex.ensures;
-      zone = c.in_ok-zone.zone.updatable.zone;
-      of_file = c.in_ok-zone.ensures.read;
-      chain = c.in_ok-chain.chain.items;
-      chained = rw c.in_ok-zone.ensures.zone at c.in_ok-chain.ensures;
-      changed = rw (none_is was (fresh.0 c.if-branch.true)) at changes;
-    }
+pub returns-clause-loaded : goal.returns-clause-loaded
+returns-clause-loaded c = record {
+  spelled = c.in_ok-apex.ensures;
+  zone = c.in_ok-zone.zone.updatable.zone;
+  of_file = c.in_ok-zone.ensures.read;
+  chain = c.in_ok-chain.chain.items;
+  chained = rw c.in_ok-zone.ensures.zone at c.in_ok-chain.ensures;
+  changed = c.in_ok-put.ensures.put;
+}

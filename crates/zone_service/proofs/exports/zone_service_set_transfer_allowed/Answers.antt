@@ -1,4 +1,4 @@
-use Rattle.server.specs.Networks.{InsertsText}
+use Rattle.server.specs.Networks.{AllowsText}
 use Rattle.server.specs.Settings.{rules_of}
 use Rattle.server.specs.declared.service.Service.{Service}
 use Rattle.server.proofs.Results.{holds}
@@ -8,7 +8,4 @@ pub returns-clause-made : goal.returns-clause-made
 returns-clause-made c done =
     let before : Service = c.service-service.result.now in
     let after : Service = c.allow_transfer.new.self in
-    rw c.service-service.ensures.value at (holds c.allow_transfer.result (InsertsText c.args.network.now (rules_of before).transfers.allow (rules_of after).transfers.allow) (c.told.ensures.done.0 done) c.allow_transfer.ensures.ok)
-
-pub returns-clause-denied : goal.returns-clause-denied
-returns-clause-denied c = rw c.service-service.ensures.value at c.allow_transfer.ensures.denied
+    rw c.service-service.ensures.value at (holds c.allow_transfer.result (AllowsText c.args.network.now (rules_of before).transfers (rules_of after).transfers) (c.told.ensures.done.0 done) c.allow_transfer.ensures.ok)

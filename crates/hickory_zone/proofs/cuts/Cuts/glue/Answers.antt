@@ -16,7 +16,7 @@ loop-servers-preserved c =
     let glue : Section = c.in_ok-additionals.field-0 in
     let servers : e.1.value ≡ c.records-servers.result.now = sym (c.records-servers.ensures.value ∙ c.deref.ensures) in
     let own : IsGlueOf zone e.1.value glue = subst (λ (rs : Records). IsGlueOf zone rs glue) (sym servers) c.in_ok-additionals.ensures in
-    subst (AreGlueOf zone (take (i + 1) cuts)) (sym c.in_ok-push.ensures.items) (walks_on zone cuts i e c.loop-servers.glue.items glue c.loop-servers-test.true c.loop-servers-item.is c.loop-servers.invariant own)
+    subst (AreGlueOf zone (take (i + 1) cuts)) (sym c.in_ok-push.ensures.items) (walks_on (λ (x : Entry) (section : Section). IsGlueOf zone x.1.value section) cuts i e c.loop-servers.glue.items glue c.loop-servers-test.true c.loop-servers-item.is c.loop-servers.invariant own)
 
 pub returns : goal.returns
 returns c =

@@ -15,22 +15,13 @@ returns c = λ done origin rest of.
       apex = c.self.inside.apex;
       entries = c.self.inside.entries.items;
       marks = c.self.inside.marks.items;
-      is_whole = c.self.inside.is_whole;
       has_servers = c.self.inside.has_servers;
-      has_addresses = c.self.inside.has_addresses;
     } in
     let first : c.new-first.result ≡ nameless name = c.new-first.ensures ∙ ap (λ n. record { name = name; record_type = n }) c.new-2.ensures in
     let none_before = λ (t : ℕ) (h : rrset (shared_sets c.args.self.now.entries) c.new-first.result.name t ≡ None).
     subst (λ (x : IndexedSets). rrset (shared_sets x.entries) name t ≡ None) (sym c.self.view_is) (subst (λ (k : RrKey). rrset (shared_sets c.args.self.now.entries) k.name t ≡ None) first h) in
     let none_after = λ (t : ℕ) (h : rrset sets c.new-first.result.name t ≡ None). subst (λ (k : RrKey). rrset sets k.name t ≡ None) first h in
-    let before = c.delegation_in-before.ensures in
-    let after = c.delegation_at-after.ensures in
-    marked_on c.args.r.now rest origin sets old c.mark.new.self c.is_still-self-inside.result c.is_still-self-inside-2.result name c.in-Ok.ensures
-    (λ has. let s = c.is_still-self-inside.ensures has in (s.0, record { before = none_before 2 (before.servers s.1); after = none_after 2 (after.servers s.2) }))
-    (λ has. let s = c.is_still-self-inside-2.ensures has in (
-      s.0,
-      record { before = none_before 1 (before.four s.1); after = none_after 1 (after.four s.2) },
-      record { before = none_before 28 (before.six s.1); after = none_after 28 (after.six s.2) },
-    ))
-    (subst (λ (k : RrKey). Marks k (record old { has_servers = c.is_still-self-inside.result; has_addresses = c.is_still-self-inside-2.result }) c.mark.new.self) first c.mark.ensures)
+    marked_on c.args.r.now rest origin sets old c.mark.new.self c.is_still-self-inside.result name c.in-Ok.ensures (c.zone_of.ensures.0 c.if-not-zone_of.false)
+    (λ has. let s = c.is_still-self-inside.ensures has in (s.0, record { before = none_before 2 (c.has_servers_in-before.ensures s.1); after = none_after 2 (c.has_servers_at-after.ensures s.2) }))
+    (subst (λ (k : RrKey). Marks k (record old { has_servers = c.is_still-self-inside.result }) c.mark.new.self) first c.mark.ensures)
     (subst (IsIndexBut (c.args.r.now ∷ rest) origin sets) (sym c.self.view_is) of)

@@ -1,4 +1,4 @@
-use Rattle.std.proofs.Common.{◌≡◌, ◌∙◌, ◌++◌, false, length, List, [], ◌∷◌, sym, subst, ap, append_assoc, arith, length-append}
+use Rattle.std.proofs.Common.{◌≡◌, ◌∙◌, ◌++◌, ℕ, false, length, List, [], ◌∷◌, sym, subst, ap, append_assoc, arith, length-append}
 use Rattle.std.specs.Map.{keys_of}
 use Rattle.std.specs.List.{AllByRecursion}
 use Rattle.std.specs.List.Sorted.{IsStrictlySortedBy}
@@ -7,11 +7,12 @@ use Rattle.std.proofs.lemmas.List.Elements.{recursion_from_All}
 use Rattle.wire_messages.specs.rr.RrKeys.{key_cmp}
 use Rattle.hickory_base.specs.zone_store.ZoneSets.{AreSetsInOrder, sets_of, shared_sets}
 use Rattle.hickory_base.proofs.lemmas.zone_store.ZoneByName.{keys-shared}
-use Rattle.hickory_zone.specs.representation.Indexes.{AreWordsOf, IsWordOf}
+use Rattle.hickory_zone.specs.representation.Indexes.{AreWordsOf, IsSearched, IsWordOf}
 use Rattle.hickory_zone.specs.representation.KeysBeside.{Entry}
-use Rattle.hickory_zone.specs.representation.TopCuts.{AreCutsOf, AreGlueOf}
+use Rattle.hickory_zone.specs.representation.TopCuts.{AreCutsOf, AreGlueOf, AreHostsOf}
 use Rattle.wire_names.specs.rr.domain.DomainName.{DomainName}
-use Rattle.hickory_zone.specs.Zones.{IsOwner, Sets}
+use Rattle.hickory_zone.proofs.lemmas.zones.TopCutsMade.{own_set}
+use Rattle.hickory_zone.specs.Zones.{IsOwner, Sets, rrset}
 use Rattle.hickory_zone.proofs.lemmas.zones.Indexed.{one_more}
 use Rattle.hickory_zone.proofs.index.Index.new.Goals as goal
 
@@ -68,6 +69,14 @@ pub new-requires-clause-ordered : goal.new-requires-clause-ordered
 new-requires-clause-ordered c = subst (λ (es : List Entry). IsStrictlySortedBy key_cmp (keys_of es)) (sym c.as_slice.ensures.value)
     (in_order c.loop-key.entries.items c.loop-key.key-iterator (sets_of c.args.sets.now) c.loop-key.invariant.sets c.in-None.ensures.steps.0 c.requires.ordered)
 
+pub hosts-requires : goal.hosts-requires
+hosts-requires c =
+    let origin = c.args.origin.now in
+    let entries = c.loop-key.entries.items in
+    subst (λ (es : List Entry). IsSearched origin es c.as_slice-3.result.now) (sym c.as_slice-2.ensures.value)
+    (subst (λ (ws : List ℕ). IsSearched origin entries ws) (sym c.as_slice-3.ensures.value)
+    (record { ordered = in_order entries c.loop-key.key-iterator (sets_of c.args.sets.now) c.loop-key.invariant.sets c.in-None.ensures.steps.0 c.requires.ordered; numbered = c.loop-key.invariant.numbered }))
+
 pub invariant_of-result : goal.invariant_of-result
 invariant_of-result c =
     let entries = c.loop-key.entries.items in
@@ -76,9 +85,26 @@ invariant_of-result c =
     let cuts : AreCutsOf (record { origin = c.args.origin.now; sets = shared_sets entries }) c.in_ok-cuts.cuts =
     subst (λ (es : List Entry). AreCutsOf (record { origin = c.args.origin.now; sets = shared_sets es }) c.in_ok-cuts.cuts) c.as_slice.ensures.value c.in_ok-cuts.ensures in
     let glue : AreGlueOf (record { origin = c.args.origin.now; sets = shared_sets entries }) c.in_ok-cuts.cuts.entries.items c.in_ok-glue.glue.items =
-    subst (λ (sets : Sets). AreGlueOf (record { origin = c.args.origin.now; sets = sets }) c.in_ok-cuts.cuts.entries.items c.in_ok-glue.glue.items) (sym whole) c.in_ok-glue.ensures in (
+    subst (λ (sets : Sets). AreGlueOf (record { origin = c.args.origin.now; sets = sets }) c.in_ok-cuts.cuts.entries.items c.in_ok-glue.glue.items) (sym whole) c.in_ok-glue.ensures in
+    let hosts : AreHostsOf c.args.origin.now entries c.in_ok-cuts.cuts.entries.items c.in_ok-hosts.hosts.items =
+    subst (λ (es : List Entry). AreHostsOf c.args.origin.now es c.in_ok-cuts.cuts.entries.items c.in_ok-hosts.hosts.items) c.as_slice-2.ensures.value c.in_ok-hosts.ensures in (
       record { ordered = in_order entries c.loop-key.key-iterator (sets_of c.args.sets.now) c.loop-key.invariant.sets c.in-None.ensures.steps.0 c.requires.ordered; numbered = subst (λ d. AreWordsOf d entries c.loop-key.words.items) (sym apex) c.loop-key.invariant.numbered },
       subst (λ (d : DomainName). AreCutsOf (record { origin = d; sets = shared_sets entries }) c.in_ok-cuts.cuts) (sym apex) cuts,
       subst (λ (d : DomainName). AreGlueOf (record { origin = d; sets = shared_sets entries }) c.in_ok-cuts.cuts.entries.items c.in_ok-glue.glue.items) (sym apex) glue,
+      subst (λ (d : DomainName). AreHostsOf d entries c.in_ok-cuts.cuts.entries.items c.in_ok-hosts.hosts.items) (sym apex) hosts,
       omega (arith, c.loop-key.invariant.marks, ap length c.in_ok-push-4.ensures.items, length-append c.loop-key.marks.items (false ∷ [])),
     )
+
+pub returns : goal.returns
+returns c =
+    let entries = c.loop-key.entries.items in
+    let whole : shared_sets entries ≡ sets_of c.args.sets.now = all_put entries c.loop-key.key-iterator (sets_of c.args.sets.now) c.loop-key.invariant.sets c.in-None.ensures.steps.0 in
+    let still = λ (name : DomainName) (t : ℕ). ap (λ (sets : Sets). rrset sets name t) (sym whole) in
+    record {
+      apex = c.in_ok-clone-3.ensures.cases;
+      held = λ place e clear none. still e.0.name e.0.record_type
+          ∙ own_set entries place e (in_order entries c.loop-key.key-iterator (sets_of c.args.sets.now) c.loop-key.invariant.sets c.in-None.ensures.steps.0 c.requires.ordered) clear.there;
+      unmarked = λ name t none clear. still name t;
+      servers = λ name none has. still name 2;
+      outside = λ name t none out. still name t;
+    }
