@@ -1,8 +1,15 @@
 -- What holds of whatever becomes of a message by the rules of a server.
-use Rattle.std.specs.Prelude.{◌≡◌, ◌≤◌, ◌<◌, ◌⊎◌, ◌∷◌, [], ℕ, List, None, Contains, length}
+use Rattle.std.specs.Prelude.{◌≡◌, ◌+◌, ◌≤◌, ◌<◌, ◌⊎◌, ◌∷◌, [], ℕ, List, None, Some, Contains, length}
 use Rattle.std.specs.List.{AllByRecursion}
 use Rattle.wire_names.specs.rr.domain.DomainName.{DomainName}
+use Rattle.wire_messages.specs.op.EdnsFields.{EdnsFields}
+use Rattle.wire_messages.specs.declared.op.header.Header.{Header}
+use Rattle.wire_messages.specs.declared.op.header.Metadata.{Metadata}
 use Rattle.wire_messages.specs.declared.protocol.Protocol.TheVariants.{Tcp, Udp}
+use Rattle.hickory_wire.specs.serialize.writing.ReplyParts.{ReplyEncoded}
+use Rattle.hickory_base.specs.declared.requests.message_request.MessageRequest.{MessageRequest}
+use Rattle.hickory_catalog.specs.replies.ReplyEdns.{reply_edns}
+use Rattle.hickory_server.specs.server.Written.{IsBare, bare_message}
 use Rattle.hickory_base.specs.requests.Questions.{payload_limit}
 use Rattle.hickory_base.specs.requests.Requests.{ReceivedRequest}
 use Rattle.hickory_base.specs.declared.zone_store.handler.ZoneHandler.{Ghosts}
@@ -67,6 +74,14 @@ abbrev pub WithinBothLimits : {S H : Type 0} → Ghosts H → (S → Signer) →
 WithinBothLimits {S} {H} handler signature_for = (rules : Rules) (catalog : Catalog S H) (message : Incoming) (sent : List (List ℕ)) (zones : List (DomainName × List H))
     → ServedBy rules (server_of handler signature_for catalog) message (Replies sent) zones → message.protocol ≡ Udp
     → AreWithin rules message sent ⊎ (IsFormError message.bytes.items (Replies sent) × AllByRecursion (λ (bytes : List ℕ). length bytes ≤ 512) sent)
+
+-- What is sent with TC has its OPT record: header, questions and the 11 bytes of an OPT record without options fit the
+-- limit (RFC 6891 section 7), as they do with one question, which has 259 bytes at most, in 512.
+abbrev pub OptHasRoom : Type 0
+OptHasRoom = (limit : ℕ) (request : MessageRequest) (metadata : Metadata) (asked : EdnsFields) (bytes : List ℕ)
+    → request.edns ≡ Some asked → 23 + length request.queries.bytes ≤ limit → IsBare limit request metadata bytes
+    → (header : Header) × ReplyEncoded limit (bare_message metadata request.queries.bytes (length request.queries.queries) (reply_edns None (Some asked))) bytes header
+    × (header.counts.additionals ≡ 1)
 
 -- A request is for this zone: the zone above its apex, if the server asks it for the DS records of that apex (RFC 4035
 -- section 3.1.4.1), and else the zone that answers for its name.
