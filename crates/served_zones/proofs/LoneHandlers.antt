@@ -63,7 +63,7 @@ module _ {H : Type 0} (handler : Ghosts H) (h : H) (r : ReceivedRequest) (Stands
 module _ {H : Type 0} (server : Server H) (h : H) (r : ReceivedRequest) (question : Query) (Stands : Found → Type 0) (Says : Contents → Type 0)
     (gives : (options : LookupOptions) (flow : Flow) (context : SignerContext) → server.handler.search_gives h r options flow context → (result : Found) × Stands result × (flow ≡ Continue result) × (context ≡ None))
     (made : (result : Found) (contents : Contents) → Stands result → is_out_of_memory result ≡ false
-      → HandlerReply server.handler h (server.handler.zone_type_of h) (record { request = r; query = question }) result contents → Says contents) where
+    → HandlerReply server.handler h (server.handler.zone_type_of h) (record { request = r; query = question }) result contents → Says contents) where
   pub replied_alone : (edns : Option EdnsFields) (now : ℕ) (reply : Reply) → (question.query_type == type_axfr) ≡ false
       → ZoneReply server (h ∷ []) (record { request = r; query = question }) edns now reply → (contents : Contents) × Says contents × (reply ≡ unsigned_reply r.message edns contents)
   replied_alone edns now reply no_transfer (queries.untransferred transfer _ _) = absurd (false≢true (sym no_transfer ∙ transfer))
@@ -80,7 +80,7 @@ module _ {H : Type 0} (server : Server H) (h : H) (r : ReceivedRequest) (questio
       let no_context : final.given.1 ≡ None = ap (λ (given : Given). given.1) a.3 in (
         contents,
         made result contents (subst Stands one a.2) in_memory
-        (subst (λ (k : H). HandlerReply server.handler k (server.handler.zone_type_of k) (record { request = r; query = question }) result contents) same handled),
+            (subst (λ (k : H). HandlerReply server.handler k (server.handler.zone_type_of k) (record { request = r; query = question }) result contents) same handled),
         unsigned_of (subst (λ (context : SignerContext). SignedReply server.signer r.message edns contents context reply) no_context by_context),
       )
 
@@ -96,7 +96,7 @@ IsOne server r question edns Says replies = (contents : Contents) × IsSaid serv
 module _ {H : Type 0} (server : Server H) (r : ReceivedRequest) (question : Query) (edns : Option EdnsFields) (now : ℕ) (Says : DomainName × List H → Contents → Type 0)
     (one : one_query r.message.queries.queries ≡ Ok question) (no_transfer : (question.query_type == type_axfr) ≡ false)
     (by_zone : (zone : DomainName × List H) → Contains server.zones zone → (reply : Reply) → ZoneReply server zone.1 (record { request = r; query = question }) edns now reply
-      → (contents : Contents) × Says zone contents × (reply ≡ unsigned_reply r.message edns contents)) where
+    → (contents : Contents) × Says zone contents × (reply ≡ unsigned_reply r.message edns contents)) where
   asked_is : (query : Query) → one_query r.message.queries.queries ≡ Ok query → query ≡ question
   asked_is query asks = let same : ◌≡◌ {A = Result Query LookupError} (Ok query) (Ok question) = sym asks ∙ one in cc
 

@@ -38,7 +38,7 @@ use Rattle.zones.specs.ZoneUpdates.{Updates}
 
 module _ (handler : Ghosts ServedHandler) (by : Verifies TsigVerifier)
     (updated : (zone : ZoneState TsigVerifier) (r : ReceivedRequest) (now : ℕ) (answer : UpdateResult) (context : SignerContext) (after : ServedHandler) → handler.update_gives (Left zone) r now answer context after
-      → (new : ZoneState TsigVerifier) × Updates by zone (r, now) answer context new × (after ≡ Left new)) where
+    → (new : ZoneState TsigVerifier) × Updates by zone (r, now) answer context new × (after ≡ Left new)) where
   -- the handler of a zone is as before, or made the update
   abbrev Stays : ZoneState TsigVerifier → ReceivedRequest → ℕ → SignerContext → ServedHandler → Type 0
   Stays zone r now context after = (after ≡ Left zone) ⊎ ((new : ZoneState TsigVerifier) × (answer : Bool) × Updates by zone (r, now) (Ok answer) context new × (after ≡ Left new))
@@ -95,7 +95,7 @@ module _ (handler : Ghosts ServedHandler) (by : Verifies TsigVerifier)
             was = l.0;
             is = new;
             changed = subst (λ (chain : List ServedHandler). ChangesAt catalog.zones name (Some (Left l.0 ∷ [])) (Some chain) after) (first.behind ∙ ap (λ (h : ServedHandler). h ∷ first.others) same ∙ ap (λ (hs : List ServedHandler). Left new ∷ hs) none)
-            (subst (λ (chain : List ServedHandler). ChangesAt catalog.zones name (Some chain) (Some made.chain') after) l.1 changed);
+                (subst (λ (chain : List ServedHandler). ChangesAt catalog.zones name (Some chain) (Some made.chain') after) l.1 changed);
             answer = changes;
             context = context;
             updates = updates;

@@ -206,7 +206,10 @@ module _ (handler : Ghosts ServedHandler)
         let (contents, said_so, bytes, one, encodes) = a in
         let leaves_so = subst (λ (e : List (List ℕ)). AreSent rules r e sent) one leaves in
         let alone = one_sent r.protocol (datagram_limit rules r) r.message bytes sent leaves_so in (
-          r, is, contents, said_so,
+          r,
+          is,
+          contents,
+          said_so,
           record {
             encoded = bytes;
             encodes = encodes;

@@ -183,7 +183,7 @@ module _ (by : Verifies TsigVerifier) where
     are_more = record {
       from_files = All-weaker (Contains after) (IsOfAFile by more) each after (All-contains_itself after);
       served = All-cons (λ (one : DomainName × List ℕ). HasZone after one.0) (apex, file) (files_of events) has_new
-      (All-weaker (λ (one : DomainName × List ℕ). HasZone old one.0) (λ (one : DomainName × List ℕ). HasZone after one.0) still_has (files_of events) are.served);
+          (All-weaker (λ (one : DomainName × List ℕ). HasZone old one.0) (λ (one : DomainName × List ℕ). HasZone after one.0) still_has (files_of events) are.served);
     }
 
   -- ---- a zone changes
@@ -267,25 +267,25 @@ module _ (by : Verifies TsigVerifier) where
       → AreOfFiles by (message_came message outcome ∷ events) old → AreOfFiles by (message_came message outcome ∷ events) after
   updated_so events message outcome old after makes are =
       are_changed now_events makes.name (Left makes.was ∷ []) (Left makes.is ∷ []) old after makes.changed are becomes where
-    now_events : List Event
-    now_events = message_came message outcome ∷ events
+        now_events : List Event
+        now_events = message_came message outcome ∷ events
 
-    becomes : (apex : DomainName) → IsOfAFile by now_events (apex, Left makes.was ∷ []) → IsOfAFile by now_events (apex, Left makes.is ∷ [])
-    becomes apex of =
-        let both = of.chain in
-        let same : makes.was ≡ of.zone = ap (state_of makes.was) both in
-        record {
-          apex = of.apex;
-          file = of.file;
-          requests = (makes.request, message.now) ∷ of.requests;
-          zone = makes.is;
-          among = of.among;
-          same = of.same;
-          after = takes_update of.after (subst (λ (z : ZoneState TsigVerifier). Updates by z (makes.request, message.now) (Ok makes.answer) makes.context makes.is) same makes.updates);
-          of_run = All-cons (IsOfRun now_events) (makes.request, message.now) of.requests
-          (record { message = message; outcome = outcome; came = (0, omega arith, refl); is_request = makes.is_request; is_update = makes.is_update; moment = refl }) of.of_run;
-          chain = refl;
-        }
+        becomes : (apex : DomainName) → IsOfAFile by now_events (apex, Left makes.was ∷ []) → IsOfAFile by now_events (apex, Left makes.is ∷ [])
+        becomes apex of =
+            let both = of.chain in
+            let same : makes.was ≡ of.zone = ap (state_of makes.was) both in
+            record {
+              apex = of.apex;
+              file = of.file;
+              requests = (makes.request, message.now) ∷ of.requests;
+              zone = makes.is;
+              among = of.among;
+              same = of.same;
+              after = takes_update of.after (subst (λ (z : ZoneState TsigVerifier). Updates by z (makes.request, message.now) (Ok makes.answer) makes.context makes.is) same makes.updates);
+              of_run = All-cons (IsOfRun now_events) (makes.request, message.now) of.requests
+                  (record { message = message; outcome = outcome; came = (0, omega arith, refl); is_request = makes.is_request; is_update = makes.is_update; moment = refl }) of.of_run;
+              chain = refl;
+            }
 
 -- ---- what is said of the zones is said of the files
 
@@ -409,7 +409,7 @@ module _ (handler : Ghosts ServedHandler) (signature_for : LeftToServer → Sign
   longer : (events : List Event) (event : Event) (zones : ZoneChains ServedHandler) → files_of (event ∷ events) ≡ files_of events → AreOfFiles by events zones → AreOfFiles by (event ∷ events) zones
   longer events event zones same are = record {
     from_files = All-weaker (IsOfAFile by events) (IsOfAFile by (event ∷ events))
-    (more_events by events event (λ one among. subst (λ (files : List (DomainName × List ℕ)). Contains files one) (sym same) among)) zones are.from_files;
+        (more_events by events event (λ one among. subst (λ (files : List (DomainName × List ℕ)). Contains files one) (sym same) among)) zones are.from_files;
     served = subst (λ (files : List (DomainName × List ℕ)). All (λ file. HasZone zones file.0) files) (sym same) are.served;
   }
 
@@ -424,7 +424,7 @@ module _ (handler : Ghosts ServedHandler) (signature_for : LeftToServer → Sign
   step events (zone_added name file apex) old after holds (loads_as, apexes, others) =
       record {
         zones = are_more by events name file apex (zones_of old) (zones_of after) holds.zones
-        (subst (λ list. IsLoadedAs (IsZoneOfFile file) name (option_map (λ it. it.value) list) apex (zones_of old) (zones_of after)) holds.no_list loads_as);
+            (subst (λ list. IsLoadedAs (IsZoneOfFile file) name (option_map (λ it. it.value) list) apex (zones_of old) (zones_of after)) holds.no_list loads_as);
         no_list = ap (λ (s : Service). s.list) others ∙ holds.no_list;
       }
   step events (rule_added zone rule) old after holds (grant, others) = kept events (rule_added zone rule) old after refl holds (ap zones_of others) (ap (λ (s : Service). s.list) others)
@@ -439,18 +439,18 @@ module _ (handler : Ghosts ServedHandler) (signature_for : LeftToServer → Sign
         zones = from (follow_outcome old (are_alone by events (zones_of old) holds.zones) message (zones_of after) outcome answers);
         no_list = ap (λ (s : Service). s.list) before.others ∙ holds.no_list;
       } where
-    were : AreOfFiles by (message_came message outcome ∷ events) (zones_of old)
-    were = longer events (message_came message outcome) (zones_of old) refl holds.zones
+        were : AreOfFiles by (message_came message outcome ∷ events) (zones_of old)
+        were = longer events (message_came message outcome) (zones_of old) refl holds.zones
 
-    from : (zones_of after ≡ zones_of old) ⊎ MakesUpdate by message (zones_of old) (zones_of after) → AreOfFiles by (message_came message outcome ∷ events) (zones_of after)
-    from (inl same) = subst (λ (zs : ZoneChains ServedHandler). AreOfFiles by (message_came message outcome ∷ events) zs) (sym same) were
-    from (inr makes) = updated_so by events message outcome (zones_of old) (zones_of after) makes were
+        from : (zones_of after ≡ zones_of old) ⊎ MakesUpdate by message (zones_of old) (zones_of after) → AreOfFiles by (message_came message outcome ∷ events) (zones_of after)
+        from (inl same) = subst (λ (zs : ZoneChains ServedHandler). AreOfFiles by (message_came message outcome ∷ events) zs) (sym same) were
+        from (inr makes) = updated_so by events message outcome (zones_of old) (zones_of after) makes were
 
   holds_after : (events : List Event) (service : Service) → Run handler signature_for events service → Holds by events service
   holds_after events service (starts unset) =
       record {
         zones = subst (λ (zs : ZoneChains ServedHandler). AreOfFiles by [] zs) (sym unset.no_zones)
-        (record { from_files = All-nil (IsOfAFile by []); served = All-nil (λ (one : DomainName × List ℕ). HasZone {V = Chain} [] one.0) });
+            (record { from_files = All-nil (IsOfAFile by []); served = All-nil (λ (one : DomainName × List ℕ). HasZone {V = Chain} [] one.0) });
         no_list = unset.no_list;
       }
   holds_after events service (goes_on {events = earlier} {event = event} {old = old} run happens) = step earlier event old service (holds_after earlier old run) happens

@@ -59,5 +59,12 @@ pub fn worked_message(
 {
     let bytes = message.bytes.as_slice();
     let answering = &mut service.answering;
-    answering.answer(alloc, bytes, message.src, message.protocol, message.now, out)
+    answering.answer(
+        alloc,
+        bytes,
+        message.src,
+        message.protocol,
+        message.now,
+        out,
+    )
 }
