@@ -1,10 +1,11 @@
 -- Messages change zones only by updates that the zones answer `Ok`.
-use Rattle.std.proofs.Common.{◌≡◌, ◌⊎◌, ◌∙◌, inl, inr, ℕ, Bool, true, List, [], ◌∷◌, Option, Some, Ok, Err, refl, sym, ap, subst, arith}
-use Rattle.std.specs.Prelude.{◌==◌, Contains}
+use Rattle.std.proofs.Common.{◌≡◌, ◌∙◌, inl, inr, ℕ, List, [], ◌∷◌, Option, Some, Ok, Err, refl, sym, ap, subst, arith}
+use Rattle.std.specs.Prelude.{Contains}
 use Rattle.std.proofs.lemmas.List.Elements.{All-contains, Contains-append_right}
 use Rattle.either.specs.declared.Either.TheVariants.{Left}
 use Rattle.wire_names.specs.rr.domain.DomainName.{DomainName}
-use Rattle.wire_messages.specs.Numbers.{opcode_update}
+use Rattle.wire_messages.specs.Numbers.{code_not_auth, code_not_imp}
+use Rattle.hickory_base.specs.declared.errors.UpdateFault.TheVariants.{Code}
 use Rattle.wire_messages.specs.op.EdnsFields.{EdnsFields}
 use Rattle.wire_messages.specs.serialize.writing.Reply.{Reply}
 use Rattle.hickory_base.specs.requests.Requests.{ReceivedRequest}
@@ -17,7 +18,7 @@ use Rattle.hickory_catalog.specs.replies.Signing.{Signer}
 use Rattle.hickory_catalog.specs.requests.Requests.{RequestAnswered}
 use Rattle.hickory_catalog.specs.requests.Requests as requests
 use Rattle.hickory_catalog.specs.requests.Server.{server_of}
-use Rattle.hickory_catalog.specs.updates.Updates.{ApexUpdated, FirstUpdated, HandlerUpdated, UpdateReply, updated_zone}
+use Rattle.hickory_catalog.specs.updates.Updates.{ApexUpdated, FirstUpdated, HandlerUpdated, UpdateReply}
 use Rattle.hickory_catalog.specs.updates.Updates as updates
 use Rattle.hickory_catalog.specs.zones.Zones.{ChangesAt, ZoneChains}
 use Rattle.hickory_catalog.specs.declared.catalog.Catalog.{Catalog}
@@ -30,7 +31,8 @@ use Rattle.hickory_server.specs.declared.server.rules.Rules.{Rules}
 use Rattle.hickory_server.specs.declared.server.serve.Incoming.{Incoming}
 use Rattle.hickory_server.specs.declared.server.serve.ServeError.{ServeError}
 use Rattle.hickory_server.specs.declared.server.serve.ServeError.TheVariants as serve_error
-use Rattle.served_zones.specs.ServedQueries.{AreAlone, IsZoneAlone, MakesUpdate, ZonesAreUpdated}
+use Rattle.served_zones.specs.ServedQueries.{AreAlone, AreMade, IsZoneAlone, ZonesAreUpdated}
+use Rattle.served_zones.specs.TakenUpdates.{Taken, by_answer, by_request, by_update, taken_by, taken_in, taken_without_reply}
 use Rattle.served_zones.specs.ServedZones.{ServedHandler}
 use Rattle.tsig.specs.declared.verifier.TsigVerifier.{TsigVerifier}
 use Rattle.zones.specs.ZoneStates.{ZoneState}
@@ -40,28 +42,29 @@ module _ (handler : Ghosts ServedHandler) (by : Verifies TsigVerifier)
     (updated : (zone : ZoneState TsigVerifier) (r : ReceivedRequest) (now : ℕ) (answer : UpdateResult) (context : SignerContext) (after : ServedHandler) → handler.update_gives (Left zone) r now answer context after
     → (new : ZoneState TsigVerifier) × Updates by zone (r, now) answer context new × (after ≡ Left new)) where
   -- the handler of a zone is as before, or made the update
-  abbrev Stays : ZoneState TsigVerifier → ReceivedRequest → ℕ → SignerContext → ServedHandler → Type 0
-  Stays zone r now context after = (after ≡ Left zone) ⊎ ((new : ZoneState TsigVerifier) × (answer : Bool) × Updates by zone (r, now) (Ok answer) context new × (after ≡ Left new))
+  abbrev Stays : ZoneState TsigVerifier → ReceivedRequest → ℕ → SignerContext → UpdateResult → ServedHandler → Type 0
+  Stays zone r now context (Ok answer) after = (new : ZoneState TsigVerifier) × Updates by zone (r, now) (Ok answer) context new × (after ≡ Left new)
+  Stays zone r now context (Err fault) after = after ≡ Left zone
 
   by_type : (type : ZoneType) (zone : ZoneState TsigVerifier) (r : ReceivedRequest) (now : ℕ) (answer : UpdateResult) (context : SignerContext) (after : ServedHandler)
-      → HandlerUpdated handler type (r, now) (Left zone) (answer, context) after → Stays zone r now context after
-  by_type Primary zone r now (Ok changed) context after made = let u = updated zone r now (Ok changed) context after made.0 in inr (u.0, changed, u.1, u.2)
-  by_type Primary zone r now (Err fault) context after made = inl made.1
-  by_type Secondary zone r now answer context after made = inl made.2
-  by_type External zone r now answer context after made = inl made.2
+      → HandlerUpdated handler type (r, now) (Left zone) (answer, context) after → Stays zone r now context answer after
+  by_type Primary zone r now (Ok changed) context after made = updated zone r now (Ok changed) context after made.0
+  by_type Primary zone r now (Err fault) context after made = made.1
+  by_type Secondary zone r now (Ok changed) context after made = let no : ◌≡◌ {A = UpdateResult} (Ok changed) (Err (Code code_not_imp)) = made.0 in absurd cc
+  by_type Secondary zone r now (Err fault) context after made = made.2
+  by_type External zone r now (Ok changed) context after made = let no : ◌≡◌ {A = UpdateResult} (Ok changed) (Err (Code code_not_auth)) = made.0 in absurd cc
+  by_type External zone r now (Err fault) context after made = made.2
 
   by_handler : (zone : ZoneState TsigVerifier) (first : ServedHandler) (r : ReceivedRequest) (now : ℕ) (answer : UpdateResult) (context : SignerContext) (after : ServedHandler) → first ≡ Left zone
-      → HandlerUpdated handler (handler.zone_type_of first) (r, now) first (answer, context) after → Stays zone r now context after
+      → HandlerUpdated handler (handler.zone_type_of first) (r, now) first (answer, context) after → Stays zone r now context answer after
   by_handler zone first r now answer context after is made =
       by_type (handler.zone_type_of (Left zone)) zone r now answer context after
       (subst (λ (h : ServedHandler). HandlerUpdated handler (handler.zone_type_of h) (r, now) h (answer, context) after) is made)
 
   module _ {S : Type 0} (signature_for : S → Signer) (catalog : Catalog S ServedHandler) (are : AreAlone catalog.zones) (message : Incoming) (r : ReceivedRequest) (is_request : IsRequestOf message r) where
-    abbrev Follows : ZoneChains ServedHandler → Type 0
-    Follows after = (after ≡ catalog.zones) ⊎ MakesUpdate by message catalog.zones after
-
-    by_apex : (name : DomainName) → (r.message.metadata.op_code == opcode_update) ≡ true → updated_zone r ≡ Some name → (answer : UpdateResult) (context : SignerContext) (after : ZoneChains ServedHandler) → ApexUpdated handler (r, message.now) name catalog.zones (answer, context) after → Follows after
-    by_apex name is_update named answer context after made = from (by_handler l.0 first.first r message.now answer context first.after is first.answers) where
+    by_apex : (name : DomainName) (answer : UpdateResult) (context : SignerContext) (after : ZoneChains ServedHandler) → ApexUpdated handler (r, message.now) name catalog.zones (answer, context) after
+        → AreMade by message catalog.zones after (taken_by answer name (r, message.now))
+    by_apex name answer context after made = from answer (by_handler l.0 first.first r message.now answer context first.after is first.answers) where
       changed : ChangesAt catalog.zones name (Some made.chain) (Some made.chain') after
       changed = made.changed
 
@@ -83,55 +86,54 @@ module _ (handler : Ghosts ServedHandler) (by : Verifies TsigVerifier)
       none : first.others ≡ []
       none = let both = lone in cc
 
-      from : Stays l.0 r message.now context first.after → Follows after
-      from (inl same) = inl (same_after changed (first.behind ∙ ap (λ (h : ServedHandler). h ∷ first.others) (same ∙ sym is) ∙ sym first.before))
-      from (inr (new, changes, updates, same)) =
-          inr (record {
-            request = r;
+      from : (answer : UpdateResult) → Stays l.0 r message.now context answer first.after → AreMade by message catalog.zones after (taken_by answer name (r, message.now))
+      from (Err fault) same = same_after changed (first.behind ∙ ap (λ (h : ServedHandler). h ∷ first.others) (same ∙ sym is) ∙ sym first.before)
+      from (Ok answer) (new, updates, same) =
+          record {
             is_request = is_request;
-            is_update = is_update;
-            name = name;
-            named = named;
+            moment = refl;
             was = l.0;
             is = new;
             changed = subst (λ (chain : List ServedHandler). ChangesAt catalog.zones name (Some (Left l.0 ∷ [])) (Some chain) after) (first.behind ∙ ap (λ (h : ServedHandler). h ∷ first.others) same ∙ ap (λ (hs : List ServedHandler). Left new ∷ hs) none)
                 (subst (λ (chain : List ServedHandler). ChangesAt catalog.zones name (Some chain) (Some made.chain') after) l.1 changed);
-            answer = changes;
+            answer = answer;
             context = context;
             updates = updates;
-          })
+          }
 
-    by_update : (r.message.metadata.op_code == opcode_update) ≡ true → (edns : Option EdnsFields) (reply : Reply) (after : ZoneChains ServedHandler) → UpdateReply (server_of handler signature_for catalog) r edns message.now reply after → Follows after
-    by_update is_update edns reply after (updates.unnamed _ _ kept) = inl kept
-    by_update is_update edns reply after (updates.no_apex _ _ _ kept) = inl kept
-    by_update is_update edns reply after (updates.no_handler _ _ _ kept) = inl kept
-    by_update is_update edns reply after (updates.answered {name = name} {answer = answer} {context = context} named made _ _ _) = by_apex name is_update named answer context after made
+    abbrev Are : ZoneChains ServedHandler → Taken → Type 0
+    Are after taken = AreMade by message catalog.zones after taken
 
-    by_request : (replies : List Reply) (after : ZoneChains ServedHandler) → RequestAnswered (server_of handler signature_for catalog) r message.now replies after → Follows after
-    by_request replies after (requests.refused _ _ kept) = inl kept
-    by_request replies after (requests.asks _ _ query) = inl query.kept
-    by_request replies after (requests.updates _ is_update update) = by_update is_update _ update.reply after update.is_reply
+    of_update : (edns : Option EdnsFields) (reply : Reply) (after : ZoneChains ServedHandler) (u : UpdateReply (server_of handler signature_for catalog) r edns message.now reply after) → Are after (by_update u)
+    of_update edns reply after (updates.unnamed _ _ kept) = kept
+    of_update edns reply after (updates.no_apex _ _ _ kept) = kept
+    of_update edns reply after (updates.no_handler _ _ _ kept) = kept
+    of_update edns reply after (updates.answered {name = name} {answer = answer} {context = context} named made _ _ _) = by_apex name answer context after made
 
-    by_server : (rules : Rules) (encoded : List (List ℕ)) (after : ZoneChains ServedHandler) → RequestServed rules (server_of handler signature_for catalog) r message.now encoded after → Follows after
-    by_server rules encoded after (by_rules.refused _ _ _ kept) = inl kept
-    by_server rules encoded after (by_rules.truncated _ _ _ kept) = inl kept
-    by_server rules encoded after (by_rules.transferred _ _ _ kept) = inl kept
-    by_server rules encoded after (by_rules.passed _ (by_rules.above _ _ kept) _) = inl kept
-    by_server rules encoded after (by_rules.passed {replies = replies} _ (by_rules.own _ answered) _) = by_request replies after answered
+    of_request : (replies : List Reply) (after : ZoneChains ServedHandler) (a : RequestAnswered (server_of handler signature_for catalog) r message.now replies after) → Are after (by_answer a)
+    of_request replies after (requests.refused _ _ kept) = kept
+    of_request replies after (requests.asks _ _ query) = query.kept
+    of_request replies after (requests.updates _ is_update update) = of_update _ update.reply after update.is_reply
+
+    of_served : (rules : Rules) (encoded : List (List ℕ)) (after : ZoneChains ServedHandler) (s : RequestServed rules (server_of handler signature_for catalog) r message.now encoded after) → Are after (by_request s)
+    of_served rules encoded after (by_rules.refused _ _ _ kept) = kept
+    of_served rules encoded after (by_rules.truncated _ _ _ kept) = kept
+    of_served rules encoded after (by_rules.transferred _ _ _ kept) = kept
+    of_served rules encoded after (by_rules.passed _ (by_rules.above _ _ kept) _) = kept
+    of_served rules encoded after (by_rules.passed {replies = replies} _ (by_rules.own _ answered) _) = of_request replies after answered
 
   pub updated_so : {S : Type 0} (signature_for : S → Signer) → ZonesAreUpdated handler signature_for by
-  updated_so signature_for rules catalog message after are = (λ answer served. by_answer answer served, λ e leaves. by_error e leaves) where
-    by_answer : (answer : Answer) → ServedBy rules (server_of handler signature_for catalog) message answer after → (after ≡ catalog.zones) ⊎ MakesUpdate by message catalog.zones after
-    by_answer answer (by_rules.denied _ _ kept) = inl kept
-    by_answer answer (by_rules.short _ _ _ kept) = inl kept
-    by_answer answer (by_rules.response _ _ _ _ kept) = inl kept
-    by_answer answer (by_rules.unreadable _ _ _ _ _ kept) = inl kept
-    by_answer answer (by_rules.request {request = r} {encoded = encoded} _ _ _ is served _ _) = by_server signature_for catalog are message r is rules encoded after served
+  updated_so signature_for rules catalog message after are = (λ answer served. of_answer answer served, λ e left. of_error e left) where
+    of_answer : (answer : Answer) (s : ServedBy rules (server_of handler signature_for catalog) message answer after) → AreMade by message catalog.zones after (taken_in s)
+    of_answer answer (by_rules.denied _ _ kept) = kept
+    of_answer answer (by_rules.short _ _ _ kept) = kept
+    of_answer answer (by_rules.response _ _ _ _ kept) = kept
+    of_answer answer (by_rules.unreadable _ _ _ _ _ kept) = kept
+    of_answer answer (by_rules.request {request = r} {encoded = encoded} _ _ _ is served _ _) = of_served signature_for catalog are message r is rules encoded after served
 
-    by_error : (e : ServeError) → LeavesUnserved rules.access (server_of handler signature_for catalog) message e after → (after ≡ catalog.zones) ⊎ MakesUpdate by message catalog.zones after
-    by_error serve_error.Memory leaves = inl leaves.1
-    by_error serve_error.MemoryAfterHandling (allowed, r, is, sink, inl (some, replies, answered)) = by_request signature_for catalog are message r is replies after answered
-    by_error serve_error.MemoryAfterHandling (allowed, r, is, sink, inr (none, empty, leaves)) =
-        let (fine, op, left) = leaves in
-        let (name, named, changed, context, made) = left in
-        by_apex signature_for catalog are message r is name op named (Ok changed) context after made
+    of_error : (e : ServeError) (left : LeavesUnserved rules.access (server_of handler signature_for catalog) message e after)
+        → AreMade by message catalog.zones after (taken_without_reply rules.access (server_of handler signature_for catalog) message after e left)
+    of_error serve_error.Memory left = left.1
+    of_error serve_error.MemoryAfterHandling (allowed, r, is, sink, inl (some, replies, answered)) = of_request signature_for catalog are message r is replies after answered
+    of_error serve_error.MemoryAfterHandling (allowed, r, is, sink, inr (none, empty, (fine, op, (name, named, changed, context, made)))) =
+        by_apex signature_for catalog are message r is name (Ok changed) context after made

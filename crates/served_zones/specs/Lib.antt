@@ -6,5 +6,6 @@ pub mod Journals
 pub mod ServedQueries
 pub mod Operations
 pub mod ServedZones
+pub mod TakenUpdates
 pub mod ZoneChanges
 pub mod ZoneReplies

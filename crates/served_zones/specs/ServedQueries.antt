@@ -1,14 +1,14 @@
 -- What a server replies to a query from its zones, and how messages change them.
-use Rattle.std.specs.Prelude.{◌≡◌, ◌==◌, ◌≤◌, ◌⊎◌, ◌∷◌, [], ℕ, All, Bool, List, Ok, Option, None, Some, length, true}
+use Rattle.std.specs.Prelude.{◌≡◌, ◌≤◌, ◌∷◌, [], ℕ, All, Bool, List, Ok, Option, None, Some, length}
 use Rattle.either.specs.declared.Either.TheVariants.{Left}
 use Rattle.wire_names.specs.rr.domain.DomainName.{DomainName}
 use Rattle.wire_names.specs.rr.domain.NameOrder.{lower_name}
 use Rattle.wire_names.specs.declared.error.ProtoError.{ProtoError}
-use Rattle.wire_messages.specs.Numbers.{code_refused, opcode_update}
+use Rattle.wire_messages.specs.Numbers.{code_refused}
 use Rattle.wire_messages.specs.declared.op.query.Query.{Query}
 use Rattle.wire_messages.specs.declared.protocol.Protocol.TheVariants.{Tcp}
 use Rattle.hickory_base.specs.requests.RequestReading.{IsFaultOf}
-use Rattle.hickory_base.specs.requests.Requests.{ReceivedRequest}
+use Rattle.hickory_base.specs.requests.Requests.{ReceivedRequest, TimedRequest}
 use Rattle.hickory_base.specs.responses.EncodingSinks.{IsEncodingOf}
 use Rattle.hickory_base.specs.zone_store.Lookups.{SignerContext}
 use Rattle.hickory_base.specs.zone_store.ZoneAnswers.{MemoryZone}
@@ -18,7 +18,6 @@ use Rattle.hickory_catalog.specs.replies.Replies.{Contents, error_contents, unsi
 use Rattle.hickory_catalog.specs.replies.ReplyEdns.{reply_edns}
 use Rattle.hickory_catalog.specs.replies.Signing.{Signer}
 use Rattle.hickory_catalog.specs.requests.Server.{server_of}
-use Rattle.hickory_catalog.specs.updates.Updates.{updated_zone}
 use Rattle.hickory_catalog.specs.zones.Find.{Finds}
 use Rattle.hickory_catalog.specs.zones.Zones.{ChangesAt, ZoneChains}
 use Rattle.hickory_catalog.specs.declared.catalog.Catalog.{Catalog}
@@ -36,6 +35,7 @@ use Rattle.hickory_server.specs.zone_handler.ZoneReplies.{SaysTheReply}
 use Rattle.hickory_zone.specs.Zones.{AreOwners}
 use Rattle.hickory_store.specs.declared.updates.verifier.Verifier.{Ghosts as Verifies}
 use Rattle.served_zones.specs.ServedZones.{Chain, ServedHandler}
+use Rattle.served_zones.specs.TakenUpdates.{Taken, taken_in, taken_without_reply}
 use Rattle.tsig.specs.declared.verifier.TsigVerifier.{TsigVerifier}
 use Rattle.zones.specs.ZoneQueries.{failure}
 use Rattle.zones.specs.ZoneStates.{ZoneState}
@@ -95,23 +95,27 @@ QueriesAreAnswered {S} handler signature_for =
     → (request : ReceivedRequest) × IsRequestOf message request × (contents : Contents)
     × IsSaidBy catalog.zones request question contents × IsSentAlone rules catalog.nsid request contents answer
 
--- A message is an update (RFC 2136), and the zone that it names answered it `Ok`. All other zones are as before.
-pub record MakesUpdate (by : Verifies TsigVerifier) (message : Incoming) (old new : ZoneChains ServedHandler) : Type 0 where
-  pub request : ReceivedRequest
-  pub is_request : IsRequestOf message request
-  pub is_update : (request.message.metadata.op_code == opcode_update) ≡ true
-  pub name : DomainName
-  pub named : updated_zone request ≡ Some name
+-- The message is this update (RFC 2136), at its moment, and the zone of this name answered it `Ok`. All other zones are
+-- as before.
+pub record MakesUpdate (by : Verifies TsigVerifier) (message : Incoming) (old new : ZoneChains ServedHandler) (name : DomainName) (update : TimedRequest) : Type 0 where
+  pub is_request : IsRequestOf message update.0
+  pub moment : update.1 ≡ message.now
   pub was : ZoneState TsigVerifier
   pub is : ZoneState TsigVerifier
   pub changed : ChangesAt old name (Some (Left was ∷ [])) (Some (Left is ∷ [])) new
   pub answer : Bool
   pub context : SignerContext
-  pub updates : Updates by was (request, message.now) (Ok answer) context is
+  pub updates : Updates by was update (Ok answer) context is
 
--- A message changes zones only by such an update, also if memory is refused for it.
+-- The zones change by the update that was taken, and if none was, they are as before.
+abbrev pub AreMade : Verifies TsigVerifier → Incoming → ZoneChains ServedHandler → ZoneChains ServedHandler → Taken → Type 0
+AreMade by message old new None = new ≡ old
+AreMade by message old new (Some taken) = MakesUpdate by message old new taken.0 taken.1
+
+-- A message changes zones just by the update that was taken, also if memory is refused for its reply.
 abbrev pub ZonesAreUpdated : {S : Type 0} → Ghosts ServedHandler → (S → Signer) → Verifies TsigVerifier → Type 0
 ZonesAreUpdated {S} handler signature_for by =
     (rules : Rules) (catalog : Catalog S ServedHandler) (message : Incoming) (after : ZoneChains ServedHandler) → AreAlone catalog.zones
-    → ((answer : Answer) → ServedBy rules (server_of handler signature_for catalog) message answer after → (after ≡ catalog.zones) ⊎ MakesUpdate by message catalog.zones after)
-    × ((e : ServeError) → LeavesUnserved rules.access (server_of handler signature_for catalog) message e after → (after ≡ catalog.zones) ⊎ MakesUpdate by message catalog.zones after)
+    → ((answer : Answer) (served : ServedBy rules (server_of handler signature_for catalog) message answer after) → AreMade by message catalog.zones after (taken_in served))
+    × ((e : ServeError) (left : LeavesUnserved rules.access (server_of handler signature_for catalog) message e after)
+    → AreMade by message catalog.zones after (taken_without_reply rules.access (server_of handler signature_for catalog) message after e left))

@@ -1,9 +1,10 @@
 -- One law from the bytes of zone files and messages to the bytes that leave. It is of servers that block no names, and
 -- whose zones have no journals.
-use Rattle.std.specs.Prelude.{◌≡◌, ◌==◌, ◌++◌, ◌∷◌, [], ℕ, All, Bool, Contains, List, None, Result, Ok, Err, option_map, true}
+use Rattle.std.specs.Prelude.{◌≡◌, ◌++◌, ◌∷◌, [], ℕ, Bool, List, None, Some, Result, Ok, Err, cond, option_map}
+use Rattle.std.proofs.Common.{inl, inr, refl}
 use Rattle.wire_names.specs.rr.domain.DomainName.{DomainName}
-use Rattle.wire_names.specs.rr.domain.NameOrder.{lower_name}
-use Rattle.wire_messages.specs.Numbers.{code_refused, opcode_update}
+use Rattle.wire_names.specs.rr.domain.NameOrder.{lower_name, name_eq}
+use Rattle.wire_messages.specs.Numbers.{code_refused}
 use Rattle.wire_messages.specs.declared.op.query.Query.{Query}
 use Rattle.hickory_base.specs.requests.Requests.{ReceivedRequest, TimedRequest}
 use Rattle.hickory_base.specs.zone_store.Lookups.{SignerContext}
@@ -14,7 +15,7 @@ use Rattle.hickory_catalog.specs.replies.Signing.{Signer}
 use Rattle.hickory_catalog.specs.zones.Find.{Finds}
 use Rattle.hickory_catalog.specs.zones.Zones.{ZoneChains}
 use Rattle.hickory_server.specs.server.Above.{FindsAbove}
-use Rattle.hickory_server.specs.server.ServedBy.{Arrival, arrival}
+use Rattle.hickory_server.specs.server.ServedBy.{Arrival, IsMessageOf, arrival}
 use Rattle.hickory_server.specs.server.ServedLaws.{IsFor}
 use Rattle.hickory_server.specs.server.Serving.{IsRequestOf}
 use Rattle.hickory_server.specs.zone_handler.ZoneReplies.{SaysTheReply}
@@ -24,10 +25,13 @@ use Rattle.hickory_server.specs.declared.server.serve.ServeError.{ServeError}
 use Rattle.served_zones.specs.Given.{updated}
 use Rattle.served_zones.specs.Grants.{IsGrantOf}
 use Rattle.served_zones.specs.ServedQueries.{IsPlainQuery, IsSaidByZone, IsSentAlone}
+use Rattle.served_zones.specs.TakenUpdates.{Taken, taken_in, taken_without_reply}
 use Rattle.served_zones.specs.ServedZones.{IsLoadedAs, IsZoneOfFile, ServedHandler, loaded}
 use Rattle.served_zones.specs.declared.grants.Grant.{Grant}
 use Rattle.signed_server.specs.KeyedServers.{KeyedServer, keyed_of}
+use Rattle.hickory_catalog.specs.requests.Server.{server_of}
 use Rattle.signed_server.specs.ServedWithKeys.{LeavesWithKeys, ServedWithKeys}
+use Rattle.signed_server.specs.ServedWithKeys.ServedWithKeys.{good, plain, unjudged}
 use Rattle.signed_server.specs.declared.placeholders.LeftToServer.{LeftToServer}
 use Rattle.tsig.specs.Judging.{Judged}
 use Rattle.tsig.specs.declared.judgement.Judgement.{Judgement}
@@ -64,6 +68,14 @@ files_of (other ∷ events) = files_of events
 abbrev pub arrived : Incoming → Arrival
 arrived message = arrival message.bytes.items message.src message.protocol message.now
 
+abbrev pub itself : (message : Incoming) → IsMessageOf message.bytes.items message.src message.protocol message.now message
+itself message = record { bytes_are = refl; source_is = refl; protocol_is = refl; now_is = refl }
+
+-- these updates of a zone, and the one that was taken, if it is of that zone, in any letter case
+abbrev pub with_taken : Taken → DomainName → List TimedRequest → List TimedRequest
+with_taken None apex updates = updates
+with_taken (Some made) apex updates = cond (name_eq made.0 apex) (made.1 ∷ updates) updates
+
 -- The zones, their rules and the list of blocked names are as before.
 pub record AreKept (old new : Service) : Type 0 where
   pub zones : zones_of new ≡ zones_of old
@@ -76,15 +88,6 @@ pub record AreKept (old new : Service) : Type 0 where
 pub record IsAsBefore (old new : Service) : Type 0 where
   pub stays : Stays old.answering.server new.answering.server
   pub others : new ≡ record old { answering = new.answering; counters = new.counters; limits = new.limits }
-
--- The update is the request of a message that came.
-pub record IsOfRun (events : List Event) (update : TimedRequest) : Type 0 where
-  pub message : Incoming
-  pub outcome : Result Answer ServeError
-  pub came : Contains events (message_came message outcome)
-  pub is_request : IsRequestOf message update.0
-  pub is_update : (update.0.message.metadata.op_code == opcode_update) ≡ true
-  pub moment : update.1 ≡ message.now
 
 -- The zone of a file's bytes after updates, the last one first: each was answered `Ok` (RFC 2136), by the keys and rules
 -- that the zone had.
@@ -104,6 +107,23 @@ module _ (handler : Ghosts ServedHandler) (signature_for : LeftToServer → Sign
   Answers service message (Ok answer) zones = ServedWithKeys (keyed service) (arrived message) answer zones
   Answers service message (Err e) zones = LeavesWithKeys (keyed service) (arrived message) e zones
 
+  -- the update that was taken in a message, with the name of its zone; or none
+  abbrev pub taken_by_answer : (service : Service) (message : Incoming) (answer : Answer) (zones : ZoneChains ServedHandler) → ServedWithKeys (keyed service) (arrived message) answer zones → Taken
+  taken_by_answer service message answer zones (unjudged _ served) = taken_in (served message (itself message))
+  taken_by_answer service message answer zones (plain _ _ _ served) = taken_in (served message (itself message))
+  taken_by_answer service message answer zones (good _ _ _ _ _ served _) = taken_in (served message (itself message))
+  taken_by_answer service message answer zones other = None
+
+  abbrev pub taken_by_error : (service : Service) (message : Incoming) (e : ServeError) (zones : ZoneChains ServedHandler) → LeavesWithKeys (keyed service) (arrived message) e zones → Taken
+  taken_by_error service message e zones (inl _) = None
+  taken_by_error service message e zones (inr (inl left)) =
+      taken_without_reply (rules_of service).access (server_of handler signature_for service.answering.server.server.catalog) message zones e (left message (itself message))
+  taken_by_error service message e zones (inr (inr (_, _, _, _, _, served))) = taken_in (served message (itself message))
+
+  abbrev pub taken : (service : Service) (message : Incoming) (outcome : Result Answer ServeError) (zones : ZoneChains ServedHandler) → Answers service message outcome zones → Taken
+  taken service message (Ok answer) zones answers = taken_by_answer service message answer zones answers
+  taken service message (Err e) zones left = taken_by_error service message e zones left
+
   -- What a server is after a setting that it took, or after a message: what the clause of that call says.
   abbrev pub Happens : Event → Service → Service → Type 0
   Happens (zone_added name file apex) old new = IsLoadedAs (IsZoneOfFile file) name (option_map (λ it. it.value) old.list) apex (zones_of old) (zones_of new)
@@ -119,27 +139,38 @@ module _ (handler : Ghosts ServedHandler) (signature_for : LeftToServer → Sign
     starts : {service : Service} → IsUnset service → Run [] service
     goes_on : {events : List Event} {event : Event} {old after : Service} → Run events old → Happens event old after → Run (event ∷ events) after
 
+  -- the updates that the zone of this apex took since it was added, the last one first
+  abbrev pub updates_of : {events : List Event} {service : Service} → Run events service → DomainName → List TimedRequest
+  updates_of (starts unset) apex = []
+  updates_of (goes_on {event = zone_added name file added} run happens) apex = cond (name_eq added apex) [] (updates_of run apex)
+  updates_of (goes_on {event = rule_added zone rule} run happens) apex = updates_of run apex
+  updates_of (goes_on {event = rules_given} run happens) apex = updates_of run apex
+  updates_of (goes_on {event = other_set} run happens) apex = updates_of run apex
+  updates_of (goes_on {event = message_came message outcome} {old = old} {after = after} run happens) apex =
+      with_taken (taken old message outcome (zones_of after) happens.0) apex (updates_of run apex)
+
 -- However the message is judged by these keys, it has no signature. Without keys none is judged.
 abbrev pub IsUnsigned : List Key → Incoming → Type 0
 IsUnsigned keys message = (judgement : Judgement) → Judged keys message.bytes.items message.now judgement → judgement ≡ Unsigned
 
 -- What the reply to a question says: REFUSED, if no file is of a zone for the name (RFC 1035 section 4.1.1); or what the
--- zone of a file says, as the updates that came left it (RFC 1034 section 4.3.2). The file is the one whose apex is
+-- zone of a file says, as the updates that it took left it (RFC 1034 section 4.3.2). The file is the one whose apex is
 -- nearest to the name, or for the DS records of an apex the nearest above it (RFC 4035 section 3.1.4.1).
-pub data IsSaidOf (by : Verifies TsigVerifier) (events : List Event) (request : ReceivedRequest) (question : Query) (contents : Contents) : Type 0 where
-  of_no_file : FindsAbove (files_of events) request.message None → Finds (files_of events) (lower_name question.name) None → contents ≡ error_contents request.message.metadata code_refused → IsSaidOf by events request question contents
-  of_file : {apex : DomainName} {file : List ℕ} {requests : List TimedRequest} {zone : ZoneState TsigVerifier}
-      → IsFor (files_of events) request (apex, file) → IsZoneAfter by file apex requests zone → All (IsOfRun events) requests
-      → IsSaidByZone zone.updatable.zone request question contents → IsSaidOf by events request question contents
+pub data IsSaidOf (by : Verifies TsigVerifier) (files : List (DomainName × List ℕ)) (updates : DomainName → List TimedRequest) (request : ReceivedRequest) (question : Query) (contents : Contents) : Type 0 where
+  of_no_file : FindsAbove files request.message None → Finds files (lower_name question.name) None → contents ≡ error_contents request.message.metadata code_refused
+      → IsSaidOf by files updates request question contents
+  of_file : {apex : DomainName} {file : List ℕ} {zone : ZoneState TsigVerifier} → IsFor files request (apex, file) → IsZoneAfter by file apex (updates apex) zone
+      → IsSaidByZone zone.updatable.zone request question contents → IsSaidOf by files updates request question contents
 
 -- Whatever settings a server took and whatever messages it answered: an unsigned query that may use it has one reply,
--- which encodes what the zone of the nearest file says.
+-- which encodes what the zone of the nearest file says, after the updates that this zone answered `Ok`.
 abbrev pub RepliesAreOfTheFiles : Ghosts ServedHandler → (LeftToServer → Signer) → Verifies TsigVerifier → Type 0
 RepliesAreOfTheFiles handler signature_for by =
     (events : List Event) (service : Service) (message : Incoming) (question : Query) (answer : Answer) (zones : ZoneChains ServedHandler)
-    → Run handler signature_for events service → IsPlainQuery (rules_of service) message question → IsUnsigned service.answering.server.keys message
+    (run : Run handler signature_for events service) → IsPlainQuery (rules_of service) message question → IsUnsigned service.answering.server.keys message
     → Answers handler signature_for service message (Ok answer) zones
-    → (request : ReceivedRequest) × IsRequestOf message request × (contents : Contents) × IsSaidOf by events request question contents
+    → (request : ReceivedRequest) × IsRequestOf message request × (contents : Contents)
+    × IsSaidOf by (files_of events) (updates_of handler signature_for run) request question contents
     × IsSentAlone (rules_of service) service.answering.server.server.catalog.nsid request contents answer
 
 -- A zone that took no update says what the zone that its file's bytes make replies to the question.
