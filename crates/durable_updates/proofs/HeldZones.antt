@@ -1,5 +1,5 @@
 -- Updates that are held: what waits to be written makes the zone in memory of one that the journal keeps.
-use Rattle.std.proofs.Common.{◌≡◌, ◌∙◌, ℕ, IsTrue, List, [], ◌∷◌, ◌++◌, Bool, true, false, Option, None, Some, Result, Ok, Err, option_map, ap, refl, subst, sym}
+use Rattle.std.proofs.Common.{◌≡◌, ◌⊎◌, inl, inr, ◌∙◌, ℕ, IsTrue, OnErr, OnOk, List, [], ◌∷◌, ◌++◌, Bool, true, false, Option, None, Some, Result, Ok, Err, option_map, ap, refl, subst, sym}
 use Rattle.std.specs.Option.{is_some}
 use Rattle.std.specs.Result.{is_err}
 use Rattle.wire_messages.specs.declared.rr.tsig.TSigResponseContext.{TSigResponseContext}
@@ -15,10 +15,11 @@ use Rattle.durable_updates.specs.Holding.{IsAhead, IsKeptBut}
 use Rattle.durable_updates.specs.Journalling.{JournalsAll}
 use Rattle.durable_updates.specs.Recorded.{IsDurable}
 use Rattle.durable_updates.specs.Redone.{Redone}
-use Rattle.durable_updates.specs.Runs.{after_answer}
+use Rattle.durable_updates.specs.ReadRequests.{those_read}
+use Rattle.durable_updates.specs.Runs.{Server, ServesOne, after_answer}
 use Rattle.durable_updates.proofs.Accepted.{each_redone}
 use Rattle.durable_updates.proofs.Entries.{more, nothing_done}
-use Rattle.durable_updates.proofs.Histories.{Took, bytes_more, step_on}
+use Rattle.durable_updates.proofs.Histories.{Took, bytes_more, one_on, step_on}
 
 module _ {D : Type 0} (disks : DiskGhosts D) where
   -- where nothing is held, the journal keeps the zone
@@ -102,3 +103,33 @@ module _ {V D : Type 0} (by : Ghosts V) (disks : DiskGhosts D) where
     pub waits : (result : Result (Unit {0}) UpdateFault) → is_err result ≡ true → JournalsAll disks.seen disks.may_leave result entries old new → IsAhead disks zone.zone new entries
     waits (Ok done) bad journals = absurd (cc)
     waits (Err fault) bad journals = unsettled fault journals
+
+  -- ---- an update that is not held
+
+  module _ (r : ReceivedRequest) (now : ℕ) (answer : Result Bool UpdateFault) (context : Option TSigResponseContext) (old new : Server V D) (serves : ServesOne by disks r now answer context old new)
+      (clean : disks.is_clean new.journal.disk ≡ disks.is_clean old.journal.disk) where
+    kept_on : IsDurable disks old.zone.zone old.journal → IsDurable disks new.zone.zone new.journal
+    kept_on kept is_clean =
+        let was = kept (subst IsTrue clean is_clean) in (
+          was.0,
+          was.1,
+          was.2,
+          after_answer was.3 (those_read (r ∷ [])) answer new.journal.is_open,
+          was.4,
+          one_on by disks was.2 was.1 was.3 r now answer context old new was.5 serves,
+        )
+
+    -- A shut journal takes no entry, and the zone stays.
+    left : (result : Result Bool UpdateFault) → old.journal.is_open ≡ false → OnOk result ((old.journal.is_open ≡ true) × (new.journal.is_open ≡ true))
+        → OnErr result ((new.journal ≡ old.journal) ⊎ ((old.journal.is_open ≡ true) × (new.journal.is_open ≡ false))) → OnErr result (new.zone ≡ old.zone) → (new.journal ≡ old.journal) × (new.zone ≡ old.zone)
+    left (Ok changed) shut opened refused kept = absurd (let no : true ≡ false = sym opened.0 ∙ shut in cc)
+    left (Err fault) shut opened (inl same) kept = (same, kept)
+    left (Err fault) shut opened (inr failed) kept = absurd (let no : true ≡ false = sym failed.0 ∙ shut in cc)
+
+    -- Nothing is held, or the journal takes no entry.
+    pub kept_but : (held : Option (List (List ℕ))) → (held ≡ None) ⊎ (old.journal.is_open ≡ false) → IsKeptBut disks old.zone.zone old.journal held → IsKeptBut disks new.zone.zone new.journal held
+    kept_but None why kept = kept_on kept
+    kept_but (Some entries) (inl none) ahead = absurd (cc)
+    kept_but (Some entries) (inr shut) ahead =
+        let same = left answer shut serves.journals.opened serves.journals.refused serves.kept in
+        subst (λ (j : JournalState D). IsAhead disks new.zone.zone j entries) (sym same.0) (subst (λ (z : UpdatableZone V). IsAhead disks z.zone old.journal entries) (sym same.1) ahead)

@@ -1,11 +1,15 @@
 -- What a durable update answers. Updates follow the RFCs also where the Rust crate hickory-server differs from them.
-use Rattle.std.specs.Prelude.{◌≡◌, ◌⊎◌, true, Err, None}
-use Rattle.hickory_base.specs.requests.Updates.{UpdateMessage}
+use Rattle.std.specs.Prelude.{◌≡◌, ◌⊎◌, false, true, Err, None}
+use Rattle.hickory_base.specs.requests.Updates.{UpdateMessage, update_of}
+use Rattle.hickory_base.specs.zone_store.ZoneAnswers.{MemoryZone}
 use Rattle.hickory_base.specs.zone_store.ZoneSets.{zone_records}
 use Rattle.hickory_base.specs.declared.errors.UpdateFault.{UpdateFault}
 use Rattle.hickory_base.specs.declared.errors.UpdateFault.TheVariants.{Code, Memory}
 use Rattle.hickory_base.specs.requests.Requests.{TimedRequest}
 use Rattle.hickory_base.specs.zone_store.Lookups.{SignerContext, UpdateResult}
+use Rattle.hickory_store.specs.updates.Permission.{update_permission}
+use Rattle.hickory_store.specs.updates.Prerequisites.{prerequisite_section_refusal}
+use Rattle.hickory_store.specs.updates.Prescan.{prescan_refusal}
 use Rattle.hickory_store.specs.updates.UpdatableZone.{UpdatableZone}
 use Rattle.hickory_store.specs.updates.UpdateAnswers.{AnswersUpdate, Outcome, Updates, applied, message_outcome}
 use Rattle.hickory_store.specs.declared.updates.verifier.Verifier.{Ghosts}
@@ -13,6 +17,20 @@ use Rattle.hickory_store.specs.declared.updates.verifier.Verifier.{Ghosts}
 -- what a request is answered, and what goes with that for the signer of the reply
 abbrev pub Told : Type 0
 Told = UpdateResult × SignerContext
+
+-- The prerequisites of an update hold, and its records pass the prescan (RFC 2136 sections 3.2 and 3.4.1).
+pub record PassesChecks (zone : MemoryZone) (message : UpdateMessage) : Type 0 where
+  pub required : prerequisite_section_refusal zone.origin (zone_records zone.sets) message.prerequisites ≡ None
+  pub scanned : prescan_refusal zone.origin message.updates ≡ None
+
+-- An update comes to be written: its sender may make it (section 3.3), and it passes these checks.
+pub record IsAccepted {V : Type 0} (by : Ghosts V) (old : UpdatableZone V) (request : TimedRequest) : Type 0 where
+  pub permitted : (update_permission by old.verifier old.allow_update request.0 request.1).refusal ≡ None
+  pub passes : PassesChecks old.zone (update_of request.0.message)
+
+-- Only such an update may stay unwritten, or one whose message was not read from its bytes.
+abbrev pub MayStayUnwritten : {V : Type 0} → Ghosts V → UpdatableZone V → TimedRequest → Type 0
+MayStayUnwritten by old request = (request.0.was_read ≡ false) ⊎ IsAccepted by old request
 
 -- Why a request is not written: ServFail, which is 2, for this reason; or want of memory.
 abbrev pub IsWriteFault : Type 0 → UpdateFault → Type 0

@@ -3,7 +3,7 @@
 ghost use Rattle.std.specs.Prelude.{◌≡◌, ◌*◌, ◌-◌, ◌^◌, ◌++◌, ◌∷◌, [], IfErr, IfOk, IsTrue, OnErr, OnOk, false, max, min, not, option_copied, true, ◌⊎◌};
 ghost use Rattle.journal.specs.Read.{contents};
 ghost use Rattle.durable_updates.specs.Batches.{AnswersRead, bytes_of, if_accepted};
-ghost use Rattle.durable_updates.specs.DurableUpdates.{AnswersDurably};
+ghost use Rattle.durable_updates.specs.DurableUpdates.{AnswersDurably, MayStayUnwritten};
 ghost use Rattle.durable_updates.specs.Holding.{AreFilesOf};
 ghost use Rattle.durable_updates.specs.OpenErrors.{is_no_journal};
 ghost use Rattle.durable_updates.specs.Recorded.{IsDurable, IsHandedBack, IsRefused};
@@ -237,18 +237,18 @@ impl<V: Verifier, D: Disk + Drop> HoldingZone<V, D> {
         true
     }
 
-    /// Makes an update. Where updates are held, it waits to be written; else it is on the disk before the answer, as
-    /// `update_durably` says.
+    /// Makes an update. If updates are held, and the journal takes entries, it waits to be written; else it is on the
+    /// disk before the answer, as `update_durably` says.
     pub fn update(&mut self, alloc: Global, request: &Request, now: u64) -> UpdateAnswer
-        ensures answers { AnswersDurably (Unit {0}) V.Verifier self.old.updatable (request.now, now) result
-            self.new.updatable }
+        ensures answers { AnswersDurably (MayStayUnwritten V.Verifier self.old.updatable (request.now, now)) V.Verifier
+            self.old.updatable (request.now, now) result self.new.updatable }
         ensures kept { OnErr result.0 (self.new ≡ self.old) }
         ensures holds { self.new.holds ≡ self.old.holds }
     {
         match &mut self.held {
             None => update_durably(&mut self.zone, &mut self.journal, alloc, request, now),
             Some(_) if !self.journal.is_open() => {
-                (Err(UpdateFault::Code(ResponseCode::SERV_FAIL)), None)
+                update_durably(&mut self.zone, &mut self.journal, alloc, request, now)
             }
             Some(entries) => update_held(&mut self.zone, alloc, request, now, entries),
         }

@@ -4,7 +4,7 @@ ghost use Rattle.std.specs.Prelude.{◌≡◌, IfErr, IfOk, None, OnErr, OnOk, f
 ghost use Rattle.hickory_base.specs.requests.Updates.{update_of};
 ghost use Rattle.hickory_store.specs.updates.Prescan.{prescan_refusal};
 ghost use Rattle.hickory_store.specs.updates.UpdateAnswers.{told_context};
-ghost use Rattle.durable_updates.specs.DurableUpdates.{AnswersDurably, DoesDurably, IsWriteFault, MakesDurably};
+ghost use Rattle.durable_updates.specs.DurableUpdates.{AnswersDurably, DoesDurably, IsAccepted, IsWriteFault, MakesDurably, PassesChecks};
 ghost use Rattle.durable_updates.specs.Journalling.{Journals, RefusesRequest};
 ghost use Rattle.durable_updates.specs.ReadRequests.{IsRead};
 ghost use Rattle.durable_updates.specs.Redone.{Makes};
@@ -80,6 +80,8 @@ fn make<V: Verifier, D: Disk>(
 ) -> Result<bool, UpdateFault>
     ensures done { MakesDurably (RefusesRequest D.is_usable journal.new request.now)
         (update_of request.now.message) result zone.old zone.new }
+    ensures due { MakesDurably (PassesChecks zone.old.zone (update_of request.now.message))
+        (update_of request.now.message) result zone.old zone.new }
     ensures made { OnOk result (Makes (update_of request.now.message).updates zone.old.zone zone.new.zone) }
     ensures untouched { IfOk result (λ changed. changed ≡ false → zone.new ≡ zone.old) }
     ensures accepted { OnOk result (request.now.was_read ≡ true) }
@@ -114,7 +116,8 @@ pub(crate) fn told_context(
 ///
 /// First it is judged as `UpdatableZoneHandler::update_by` judges it by the RFCs; a request that is refused is not written. With an
 /// answer of `Ok` its bytes are an entry of the journal. Where the journal refuses them, as it takes no entry or they
-/// are 2^32 or more, or where the message was not read from them, the answer is ServFail, and the zone is as before. A
+/// are 2^32 or more, or where the message was not read from them, the answer is ServFail, and the zone is as before: so
+/// it is only of a request whose signature is good, whose prerequisites hold, and whose records pass the prescan. A
 /// journal in which a write has failed, or whose last entry was not done for want of memory, is shut: every update is
 /// ServFail until the zone is recovered from the file. Whatever the answer, a crash leaves the entries from before,
 /// with this one or without. Two syncs.
@@ -126,6 +129,8 @@ pub fn update_durably<V: Verifier, D: Disk>(
     now: u64,
 ) -> (Result<bool, UpdateFault>, Option<TSigResponseContext>)
     ensures answers { AnswersDurably (RefusesRequest D.is_usable journal.new request.now) V.Verifier zone.old
+        (request.now, now) result zone.new }
+    ensures due { AnswersDurably (IsAccepted V.Verifier zone.old (request.now, now)) V.Verifier zone.old
         (request.now, now) result zone.new }
     ensures made { OnOk result.0 (Makes (update_of request.now.message).updates zone.old.zone zone.new.zone) }
     ensures kept { OnErr result.0 (zone.new ≡ zone.old) }

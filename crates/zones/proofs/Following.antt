@@ -5,7 +5,7 @@ use Rattle.hickory_base.specs.requests.Requests.{TimedRequest}
 use Rattle.hickory_base.specs.zone_store.Lookups.{SignerContext, UpdateResult}
 use Rattle.hickory_store.specs.updates.UpdatableZone.{UpdatableZone}
 use Rattle.hickory_store.specs.declared.updates.verifier.Verifier.{Ghosts}
-use Rattle.durable_updates.specs.DurableUpdates.{AnswersDurably}
+use Rattle.durable_updates.specs.DurableUpdates.{AnswersDurably, MayStayUnwritten}
 use Rattle.zone_differences.specs.Histories.{IsKeptUp}
 use Rattle.zone_differences.specs.Versions.{RecordedLead}
 use Rattle.zones.specs.Versions.{DifferencesLead}
@@ -26,8 +26,8 @@ module _ {V : Type 0} (by : Ghosts V) where
   made_up : (request : TimedRequest) (answer : UpdateResult) (context : SignerContext) (old new : ZoneState V)
       → IsMade by old request answer context new → IsKeptUp old.updatable.zone new.updatable.zone old.history new.history
   made_up request (Ok true) context old new made = inr made.recorded
-  made_up request (Ok false) context old new made = inl (unchanged (IsTrue old.is_journalled) request (Ok false) context old.updatable new.updatable made.answers (λ e. cc), made.recorded)
-  made_up request (Err fault) context old new made = inl (unchanged (IsTrue old.is_journalled) request (Err fault) context old.updatable new.updatable made.answers (λ e. cc), made.recorded)
+  made_up request (Ok false) context old new made = inl (unchanged (IsTrue old.is_journalled × MayStayUnwritten by old.updatable request) request (Ok false) context old.updatable new.updatable made.answers (λ e. cc), made.recorded)
+  made_up request (Err fault) context old new made = inl (unchanged (IsTrue old.is_journalled × MayStayUnwritten by old.updatable request) request (Err fault) context old.updatable new.updatable made.answers (λ e. cc), made.recorded)
 
   kept_up : (request : TimedRequest) (answer : UpdateResult) (context : SignerContext) (old new : ZoneState V)
       → Updates by old request answer context new → IsKeptUp old.updatable.zone new.updatable.zone old.history new.history

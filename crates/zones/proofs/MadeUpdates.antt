@@ -17,7 +17,7 @@ use Rattle.hickory_store.specs.updates.Prescan.{prescan_refusal}
 use Rattle.hickory_store.specs.updates.UpdatableZone.{UpdatableZone}
 use Rattle.hickory_store.specs.updates.UpdateAnswers.{AnswersUpdate, IsOutcome, Outcome, applied, unless_refused}
 use Rattle.hickory_store.specs.declared.updates.verifier.Verifier.{Ghosts}
-use Rattle.durable_updates.specs.DurableUpdates.{AnswersDurably}
+use Rattle.durable_updates.specs.DurableUpdates.{AnswersDurably, MayStayUnwritten}
 use Rattle.update_policy.specs.declared.policy.Rule.{Rule}
 use Rattle.zone_differences.specs.Histories.{IsRecorded}
 use Rattle.zone_differences.specs.Standing.{IsChangedBy, IsKnown, Records}
@@ -103,7 +103,7 @@ same_history (Err fault) old new history other = refl
 -- ---- the zone as a whole
 
 pub is_made : {V : Type 0} (by : Ghosts V) (request : TimedRequest) (answer : UpdateResult) (context : SignerContext) (old new : KeptZone V) (policy : List Rule) (history after : List Difference)
-    → AnswersDurably (IsTrue old.is_journalled) by old.updatable request (answer, context) new.updatable → new ≡ record old { updatable = new.updatable }
+    → AnswersDurably (IsTrue old.is_journalled × MayStayUnwritten by old.updatable request) by old.updatable request (answer, context) new.updatable → new ≡ record old { updatable = new.updatable }
     → IsHistory answer old.updatable.zone new.updatable.zone history after
     → IsMade by (zone_state old history policy) request answer context (zone_state new after policy)
 is_made {V} by request answer context old new policy history after a others recorded =

@@ -23,7 +23,7 @@ use Rattle.hickory_store.specs.updates.UpdateAnswers.{AnswersUpdate, UpdatesAll}
 use Rattle.hickory_store.specs.updates.UpdateLaws.{HoldsIn}
 use Rattle.hickory_store.specs.declared.updates.verifier.Verifier.{Ghosts}
 use Rattle.hickory_zone.specs.Zones.{IsOwner}
-use Rattle.durable_updates.specs.DurableUpdates.{AnswersDurably}
+use Rattle.durable_updates.specs.DurableUpdates.{AnswersDurably, MayStayUnwritten}
 use Rattle.zones.specs.Owners.{AreOwned, IsNamed, IsOfItsBytes, OwnersStay, OwnersStayByRules}
 use Rattle.zones.specs.ZoneStates.{ZoneState}
 use Rattle.zones.specs.ZoneUpdates.{Updates}
@@ -88,7 +88,7 @@ module _ (zones : (origin name : DomainName) → IsTrue (is_in_zone origin name)
         → Updates by old request answer context new → IsOfItsBytes request.0 → HoldsIn AreOwned old.updatable.zone → HoldsIn AreOwned new.updatable.zone
     by_rules request answer context old new (granted is made) read h = from made.answers
       where
-        from : AnswersDurably (IsTrue old.is_journalled) by old.updatable request (answer, context) new.updatable → HoldsIn AreOwned new.updatable.zone
+        from : AnswersDurably (IsTrue old.is_journalled × MayStayUnwritten by old.updatable request) by old.updatable request (answer, context) new.updatable → HoldsIn AreOwned new.updatable.zone
         from (inl done) = stay_one request answer context old.updatable new.updatable read done h
         from (inr unwritten) = subst (λ (u : UpdatableZone V). HoldsIn AreOwned u.zone) (sym unwritten.1) h
     by_rules request answer context old new (not_granted is refused same) read h = subst (λ (z : ZoneState V). HoldsIn AreOwned z.updatable.zone) (sym same) h

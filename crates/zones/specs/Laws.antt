@@ -6,6 +6,7 @@ use Rattle.hickory_base.specs.zone_store.Lookups.{Flow, SignerContext, UpdateRes
 use Rattle.hickory_base.specs.zone_store.ZoneAnswers.{MemoryZone}
 use Rattle.hickory_store.specs.updates.UpdateAnswers.{AnswersUpdate}
 use Rattle.hickory_store.specs.declared.updates.verifier.Verifier.{Ghosts}
+use Rattle.durable_updates.specs.DurableUpdates.{IsAccepted}
 use Rattle.hickory_zone.specs.Handled as authoritative
 use Rattle.hickory_zone.specs.Zones.{AreOwners}
 use Rattle.zones.specs.ZoneQueries.{LookedUp, Searched}
@@ -46,3 +47,9 @@ module _ {V : Type 0} (by : Ghosts V) where
   abbrev pub UpdatesOfMemory : Type 0
   UpdatesOfMemory = OfUpdates (λ request answer context old new.
       old.is_journalled ≡ false → IsGrantedTo old request.0 → AnswersUpdate true by old.updatable request answer context new.updatable)
+
+  -- With a journal each update that the rules grant is answered so too, unless it is one that is to be made: it is
+  -- permitted, its prerequisites hold, and its records pass the prescan (RFC 2136 sections 3.2, 3.3 and 3.4.1).
+  abbrev pub RefusalsOfMemory : Type 0
+  RefusalsOfMemory = OfUpdates (λ request answer context old new.
+      request.0.was_read ≡ true → ¬ (IsAccepted by old.updatable request) → IsGrantedTo old request.0 → AnswersUpdate true by old.updatable request answer context new.updatable)

@@ -12,7 +12,7 @@ use Rattle.hickory_base.specs.declared.errors.UpdateFault.TheVariants.{Code, Mem
 use Rattle.hickory_store.specs.updates.Permission.{Permission, update_permission}
 use Rattle.hickory_store.specs.updates.Prescan.{prescan_refusal}
 use Rattle.hickory_store.specs.declared.updates.verifier.Verifier.{Ghosts}
-use Rattle.durable_updates.specs.DurableUpdates.{AnswersDurably}
+use Rattle.durable_updates.specs.DurableUpdates.{AnswersDurably, MayStayUnwritten}
 use Rattle.update_policy.specs.Grants.{AreGranted}
 use Rattle.update_policy.specs.declared.policy.Rule.{Rule}
 use Rattle.zone_differences.specs.Histories.{IsRecorded}
@@ -48,11 +48,11 @@ IsHistory (Ok true) old new before after = IsRecorded old new before after
 IsHistory (Ok false) old new before after = after ≡ before
 IsHistory (Err fault) old new before after = after ≡ before
 
--- An update is judged and made as RFC 2136 sections 3.2 to 3.6 say. If the zone has a journal, it may be that the update
--- could not be written: ServFail, and the zone is as before. The difference is recorded, and nothing else of the zone
--- changes.
+-- An update is judged and made as RFC 2136 sections 3.2 to 3.6 say. If the zone has a journal, it may be that an update
+-- that is to be made could not be written: ServFail, and the zone is as before. The difference is recorded, and nothing
+-- else of the zone changes.
 pub record IsMade {V : Type 0} (by : Ghosts V) (old : ZoneState V) (request : TimedRequest) (answer : UpdateResult) (context : SignerContext) (new : ZoneState V) : Type 0 where
-  pub answers : AnswersDurably (IsTrue old.is_journalled) by old.updatable request (answer, context) new.updatable
+  pub answers : AnswersDurably (IsTrue old.is_journalled × MayStayUnwritten by old.updatable request) by old.updatable request (answer, context) new.updatable
   pub recorded : IsHistory answer old.updatable.zone new.updatable.zone old.history new.history
   pub others : new ≡ record old { updatable = new.updatable; history = new.history }
 

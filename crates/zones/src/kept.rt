@@ -1,7 +1,7 @@
 //! What keeps the records of a zone: memory, or a journal too.
 
 ghost use Rattle.std.specs.Prelude.{◌≡◌, ◌⊎◌, IfErr, IfOk, IfSome, IsTrue, OnErr, OnOk, false, is_some, option_copied, true};
-ghost use Rattle.durable_updates.specs.DurableUpdates.{AnswersDurably};
+ghost use Rattle.durable_updates.specs.DurableUpdates.{AnswersDurably, MayStayUnwritten};
 ghost use Rattle.durable_updates.specs.Holding.{AreFilesOf};
 ghost use Rattle.durable_updates.specs.OpenErrors.{is_no_journal};
 ghost use Rattle.durable_updates.specs.Recorded.{IsDurable, IsHandedBack, IsRefused};
@@ -107,7 +107,8 @@ impl<V: Verifier, D: Disk + Drop> Kept<V, D> {
 
     /// Makes an update. If there is a journal, the update is on the disk before the answer, or it is held.
     pub(crate) fn update(&mut self, alloc: Global, request: &Request, now: u64) -> UpdateAnswer
-        ensures answers { AnswersDurably (IsTrue (kept_zone self.old).is_journalled) V.Verifier
+        ensures answers { AnswersDurably (IsTrue (kept_zone self.old).is_journalled ×
+            MayStayUnwritten V.Verifier (kept_zone self.old).updatable (request.now, now)) V.Verifier
             (kept_zone self.old).updatable (request.now, now) result (kept_zone self.new).updatable }
         ensures others { kept_zone self.new ≡ record (kept_zone self.old) {
           updatable = (kept_zone self.new).updatable;

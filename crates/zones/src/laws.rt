@@ -1,6 +1,6 @@
 //! Laws of zones that take updates by rules, each the contract of a function with nothing to do.
 
-ghost use Rattle.zones.specs.Laws.{AcknowledgedAreMade, ChangesAreGranted, OwnedZonesAreLookedUp, OwnedZonesReply, RulesStay, UpdatesOfMemory};
+ghost use Rattle.zones.specs.Laws.{AcknowledgedAreMade, ChangesAreGranted, OwnedZonesAreLookedUp, OwnedZonesReply, RefusalsOfMemory, RulesStay, UpdatesOfMemory};
 ghost use Rattle.zones.specs.Owners.{OwnersOfRecords, OwnersStay, OwnersStayByRules};
 ghost use Rattle.zones.specs.Versions.{DifferencesLead};
 
@@ -16,10 +16,12 @@ pub fn changes_are_granted<V: Verifier>()
 {}
 
 /// An update that is acknowledged the rules grant, and a zone that is only in memory makes it so (RFC 2136 section 3).
-/// Without a journal each update that they grant is answered as such a zone answers it.
+/// Each update that they grant is answered as such a zone answers it, if there is no journal, or if its signature is not
+/// good, a prerequisite does not hold or a record does not pass the prescan (sections 3.2, 3.3 and 3.4.1).
 pub fn updates_are_those_of_memory<V: Verifier>()
     ensures acknowledged { AcknowledgedAreMade V.Verifier }
     ensures without_journal { UpdatesOfMemory V.Verifier }
+    ensures refused { RefusalsOfMemory V.Verifier }
 {}
 
 /// If each owner name of a zone is fully qualified, and the zone's apex or below it, this stays so. No request that was
