@@ -62,8 +62,8 @@ pub record HasRoomFor (limit : ℕ) (message : MessageRequest) (most : ℕ) : Ty
   pub encoded : ReplyEncoded limit (front_of message None (length message.additionals)) bytes header
   pub most_is : most ≡ min header.counts.additionals (length message.additionals)
 
--- The bytes are the message with a front of its additionals and with its OPT record. No longer front has room, up to
--- this length.
+-- The bytes have all of the message but its additionals behind a front, and its OPT record. The front is the longest
+-- one up to this length that has room.
 pub record IsLongestFront (limit : ℕ) (message : MessageRequest) (most : ℕ) (bytes : List ℕ) : Type 0 where
   pub count : ℕ
   pub at_most : count ≤ most

@@ -28,7 +28,7 @@ use Rattle.hickory_server.specs.declared.server.rules.Ruling.TheVariants.{Pass, 
 use Rattle.hickory_server.specs.declared.server.serve.Incoming.{Incoming}
 use Rattle.hickory_server.specs.declared.server.serve.ServeError.{ServeError}
 
--- What is sent of a reply over UDP: itself if it is within the limit, and else what fits.
+-- What is sent of a reply over UDP: itself where it is within the limit, and else what fits.
 abbrev pub IsBounded : ℕ → MessageRequest → List ℕ → List ℕ → Type 0
 IsBounded limit request reply bytes = (length bytes ≤ limit) × (length reply ≤ limit → bytes ≡ reply) × (limit < length reply → IsFitted limit request reply bytes)
 

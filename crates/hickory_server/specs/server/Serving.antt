@@ -31,8 +31,8 @@ pub record IsRequestOf (message : Incoming) (request : ReceivedRequest) : Type 0
   pub source_is : request.source ≡ message.src
   pub protocol_is : request.protocol ≡ message.protocol
 
--- What becomes of a message, and the zones after it, if these addresses may use the server, and replies are encoded at
--- the limit of this transport. Only an update changes a zone.
+-- What becomes of a message, and the zones after it, where these addresses may use the server, and replies are encoded
+-- at the limit of this transport. Only an update changes a zone.
 pub data StepOver {H : Type 0} (over : Protocol) (access : AccessSets) (server : Server H) (message : Incoming) (outcome : Outcome) (zones : List (DomainName × List H)) : Type 0 where
   -- Its address may not.
   denied : ¬ (IsAllowed access.deny access.allow (socket_ip message.src)) → outcome ≡ Denied → zones ≡ server.zones → StepOver over access server message outcome zones

@@ -1,4 +1,4 @@
--- The longest front up to one additional fewer is the longest, if so many have no room.
+-- The longest front up to one additional fewer is the longest, where so many have no room.
 use Rattle.std.proofs.Common.{◌≡◌, ◌+◌, ◌-◌, ◌≤◌, ◌<◌, ◌⊎◌, inl, inr, ℕ, List, IsTrue, rules, arith, subst}
 use Rattle.std.proofs.lemmas.Bool.{cases_lt}
 use Rattle.hickory_wire.specs.serialize.writing.ReplyParts.{ReplyEncoded}
