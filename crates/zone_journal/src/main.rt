@@ -170,15 +170,24 @@ fn tell_of_origin<R: Eprint>(rt: &R, text: &str, fault: Fault) -> u8 {
     fault.status()
 }
 
+/// Whether the message of a fault of a file begins with its line.
+fn has_line(fault: Fault) -> bool {
+    match fault {
+        Fault::Zone(error) => matches!(error, ZoneError::Text(_)),
+        _ => false,
+    }
+}
+
 /// Reports the fault of a file on the standard error, and gives the status. A fault that is not of the file is reported
 /// without its name.
 fn tell_of_file<R: Eprint>(rt: &R, file: &str, fault: Fault) -> u8 {
     if fault.status() != 5 {
         return tell(rt, fault);
     }
-    let _ = match fault {
-        Fault::Zone(ZoneError::Text(placed)) => eprintln!(rt; "zone_journal: {file}:{placed}"),
-        _ => eprintln!(rt; "zone_journal: {file}: {fault}"),
+    let _ = if has_line(fault) {
+        eprintln!(rt; "zone_journal: {file}:{fault}")
+    } else {
+        eprintln!(rt; "zone_journal: {file}: {fault}")
     };
     fault.status()
 }
