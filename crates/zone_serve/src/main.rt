@@ -320,16 +320,25 @@ fn tell<R: Eprint>(rt: &R, fault: Fault) -> u8 {
     fault.status()
 }
 
+/// Whether a fault of a zone file is of its text.
+fn is_of_text(fault: ZoneFault) -> bool {
+    match fault {
+        ZoneFault::Zone(error) => matches!(error, ZoneError::Text(_)),
+        _ => false,
+    }
+}
+
 /// Whether the message of a fault of a file begins with its line.
 fn has_line(fault: Fault) -> bool {
     match fault {
-        Fault::Zone { fault, .. } => {
-            matches!(
-                fault,
-                ZoneFileFault::Zone(ZoneFault::Zone(ZoneError::Text(_)))
-            )
-        }
-        Fault::Keys { fault } => matches!(fault, KeyFileFault::Keys(KeysFault::Text(_))),
+        Fault::Zone { fault, .. } => match fault {
+            ZoneFileFault::Zone(fault) => is_of_text(fault),
+            _ => false,
+        },
+        Fault::Keys { fault } => match fault {
+            KeyFileFault::Keys(fault) => matches!(fault, KeysFault::Text(_)),
+            _ => false,
+        },
         _ => false,
     }
 }
