@@ -364,7 +364,7 @@ def try_signals(host, notified, zone):
     open(zone, "w").write("nonsense")
     host.send_signal(signal.SIGHUP)
     notified.recv(100)
-    want("and why one failed", notified.recv(1000).startswith(f"STATUS=The last reload failed: example.com={zone}: ".encode()))
+    want("and why one failed", notified.recv(1000).startswith(f"STATUS=The last reload failed: {zone}:1:9: ".encode()))
     want("a bad zone is not taken, and the old one goes on", udp(query("www.example.com"))[-4:] == bytes([192, 0, 2, 2]))
     os.kill(children(host.pid)[-1], signal.SIGKILL)
     time.sleep(1.8)
@@ -556,7 +556,7 @@ class Kept:
         open(self.zone, "w").write(SOA_AND_NS + WWW % 1)
         open(self.keys, "w").write(KEYS)
         self.words = ["--zone", f"example.com={self.zone}", "--keys", self.keys, "--allow-update", "example.com=one.example subdomain dyn.example.com A"]
-        self.words += ["--journal", f"example.com={self.journal}", "--allow-transfer", "127.0.0.1"]
+        self.words += ["--allow-transfer", "127.0.0.1", "--journal", f"example.com={self.journal}"]
         self.host = None
 
     def start(self, waits=True):
