@@ -10,7 +10,7 @@ import time
 import replies
 
 PACKAGES = {
-    "nsd": "nsd", "knotd": "knot", "named": "bind9", "unbound": "unbound", "ip": "iproute2", "named-compilezone": "bind9-utils", "kzonecheck": "knot-dnssecutils",
+    "nsd": "nsd", "knotd": "knot", "named": "bind9", "unbound": "unbound", "ip": "iproute2", "dnsperf": "dnsperf", "named-compilezone": "bind9-utils", "kzonecheck": "knot-dnssecutils",
 }
 
 # How long a server may take to have its zones, and a reply to come, in seconds.

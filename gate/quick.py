@@ -16,8 +16,9 @@ import machine
 import shown
 import transcripts
 
-# What `rt try` prints of a case: its output between a line with its name and a line with how it ended.
-RAN = re.compile(rb"^== (\d+)\n(.*?)^case=\1 run=(\S+) status=(\S+) [^\n]*\n", re.MULTILINE | re.DOTALL)
+# What `rt try` prints of a case: on one stream a line with its name before its output, on the other a line with how it ended after its messages.
+OUTPUT = re.compile(rb"^== (\d+)\n", re.MULTILINE)
+ENDED = re.compile(rb"^case=(\d+) run=(\S+) status=(\S+) [^\n]*\n", re.MULTILINE)
 # It would run each case on an interpreter first, for so many steps.
 STEPS = "1"
 # The programs whose rows are run, at most so many of each, and none that reads more lines: an unproved program is slow.
@@ -96,7 +97,7 @@ def write(path, octets):
 
 
 def try_all(program, commands, files, now):
-    """Builds a program without any proof and runs commands; returns what `rt try` printed, and the lines of input of each command."""
+    """Builds a program without any proof and runs commands; returns what `rt try` printed on both streams, and the lines of input of each command."""
     with tempfile.TemporaryDirectory(prefix="quick-") as folder:
         inputs = []
         for at, command in enumerate(commands):
@@ -108,36 +109,37 @@ def try_all(program, commands, files, now):
         for name, octets in files.items():
             write(f"{folder}/files/{name}", octets)
             words += ["--data", f"{name}={folder}/files/{name}"]
-        ran = subprocess.run(words, cwd=f"{ROOT}/crates/{program}", stdin=subprocess.DEVNULL, stdout=subprocess.PIPE, stderr=subprocess.STDOUT)
-    return ran.stdout, inputs
+        ran = subprocess.run(words, cwd=f"{ROOT}/crates/{program}", stdin=subprocess.DEVNULL, stdout=subprocess.PIPE, stderr=subprocess.PIPE)
+    return ran.stdout, ran.stderr, inputs
 
 
 def is_passed(command, lines, now, ended):
     """Whether a command printed what its transcript wants, and ended as it wants."""
-    printed, run, status = ended
-    if run != b"ended" or int(status) != command.wanted_status:
-        return False
-    # (`rt try` shows the standard error among the output)
-    for line in command.wanted("err").splitlines(keepends=True):
-        if line not in printed:
-            return False
-        printed = printed.replace(line, b"", 1)
-    found, _, faults = shown.shown(command, lines, now, (printed, b"", int(status)))
-    return not faults and shown.wanted(command)[0] == found
+    output, messages, run, status = ended
+    found, rest, faults = shown.shown(command, lines, now, (output, messages, int(status)))
+    return run == b"ended" and not faults and shown.wanted(command) == (found, rest)
+
+
+def ends_of(said, told):
+    """Returns what `rt try` said of each case, by its number: its output, its messages, whether it ended, and its status."""
+    outputs, messages = OUTPUT.split(said)[1:], ENDED.split(told)
+    output_of_case = dict(zip(outputs[::2], outputs[1::2]))
+    cases = zip(messages[::4], messages[1::4], messages[2::4], messages[3::4])
+    return {int(case): (output_of_case.get(case, b""), before, run, status) for before, case, run, status in cases}
 
 
 def run_unproved(program, groups):
     """Builds a program without any proof and runs scenarios of it; returns how many passed and how many failed."""
     can = [group[0] for group in groups if can_be_tried(group)]
     (commands, files), now = with_one_text_a_name(can), int(time.time())
-    said, inputs = try_all(program, commands, files, now)
-    ends, failed = {int(it[1]): it.group(2, 3, 4) for it in RAN.finditer(said)}, 0
+    said, told, inputs = try_all(program, commands, files, now)
+    ends, failed = ends_of(said, told), 0
     for at, command in enumerate(commands):
         if at not in ends or not is_passed(command, inputs[at], now, ends[at]):
             failed += 1
             tell(f"FAILED {command.place}, by {program}, built without any proof")
     if not ends:
-        tell(f"rt try in crates/{program} said:\n" + "\n".join(f"  {it}" for it in said.decode(errors="replace").rstrip().split("\n")[-8:]))
+        tell(f"rt try in crates/{program} said:\n" + "\n".join(f"  {it}" for it in told.decode(errors="replace").rstrip().split("\n")[-8:]))
     left = len(groups) - len(commands)
     tell(f"{program}, built without any proof: {len(commands) - failed} of {len(commands)} rows pass{f'; {left} scenarios more need the proved program' if left else ''}")
     return len(commands) - failed, failed

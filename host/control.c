@@ -4,14 +4,41 @@
 
 int control = -1;
 
+/* What is not as it should be with a zone or a journal, or nothing. */
+static const char *lack(const struct given *it) {
+    if (is_zone(it))
+        return it->refused == NULL ? "" : it->bytes != NULL ? " (not taken: as before)" : " (not taken: SERVFAIL)";
+    if (settings->has_failed[it - settings->given])
+        return " (not written: no updates)";
+    return is_failed(it->text) ? " (not opened)" : "";
+}
+
 static void write_zones(int fd) {
-    for (int i = 0; i < settings->count; i++) {
-        const char *name = settings->given[i].option->name, *text = settings->given[i].text;
-        bool is_zone = strcmp(name, "--zone") == 0, has_failed = settings->has_failed[i];
-        if (is_zone || strcmp(name, "--journal") == 0)
-            dprintf(fd, "%s %s%s\n", name + 2, text,
-                    !has_failed ? "" : is_zone ? " (not taken: SERVFAIL)" : " (not written: no updates)");
-    }
+    EACH_GIVEN (it)
+        if (is_zone(it) || strcmp(it->option->name, "--journal") == 0)
+            dprintf(fd, "%s %s%s\n", it->option->name + 2, it->text, lack(it));
+}
+
+static const char *name;          /* what a client's line has after a command */
+static const struct given *asked; /* the zone of this name */
+
+static bool find_zone(void) {
+    asked = find(settings, "--zone", name);
+    if (asked == NULL)
+        say("\"%s\" is not a zone of this server", name);
+    return asked != NULL;
+}
+
+static void write_zone(int fd) {
+    const struct given *journal = find(settings, "--journal", asked->text);
+    char at[32] = "never";
+    if (asked->bytes != NULL)
+        strftime(at, sizeof at, "%Y-%m-%d %H:%M:%S UTC", gmtime(&asked->loaded));
+    dprintf(fd, "zone %s%s\nloaded: %s\n", asked->text, lack(asked), at);
+    if (asked->refused != NULL)
+        dprintf(fd, "refused: %s\n", asked->refused);
+    if (journal != NULL)
+        dprintf(fd, "journal %s%s\n", journal->text, lack(journal));
 }
 
 /* From now on each worker writes the query log, into a file that it opens again. */
@@ -33,20 +60,24 @@ static bool end_log(void) {
 }
 
 static const struct command {
-    const char *line;
+    const char *line; /* with a blank at its end if a name comes after it */
     bool (*obey)(void);
     void (*write)(int fd);
-} commands[] = {{"status", NULL, write_status}, {"zones", NULL, write_zones},     {"stats", NULL, statistics_write},
-                {"reload", reload, NULL},       {"querylog on", begin_log, NULL}, {"querylog off", end_log, NULL},
-                {"stop", end_all, NULL}};
+} commands[] = {{"status", NULL, write_status},    {"zones", NULL, write_zones}, {"zonestatus ", find_zone, write_zone},
+                {"stats", NULL, statistics_write}, {"reload", reload, NULL},     {"querylog on", begin_log, NULL},
+                {"querylog off", end_log, NULL},   {"stop", end_all, NULL}};
 
 /* Does what a line says, and replies. */
 static void obey(int fd, const char *line) {
     const struct command *it = commands, *end = commands + sizeof commands / sizeof *commands;
-    while (it < end && strcmp(it->line, line) != 0)
+    size_t len;
+    while (it < end &&
+           (len = strlen(it->line), strncmp(it->line, line, len) != 0 || (line[len] != 0 && it->line[len - 1] != ' ')))
         it++;
     if (it == end)
         say("\"%s\" is not a command of zonedctl", line);
+    else
+        name = line + strlen(it->line);
     bool is_done = it < end && (it->obey == NULL || it->obey());
     dprintf(fd, is_done ? "ok\n%s" : "failed\n%s\n", is_done ? "" : said);
     if (is_done && it->write != NULL)
@@ -55,7 +86,7 @@ static void obey(int fd, const char *line) {
 
 void control_answer(void) {
     static const struct timeval second = {.tv_sec = 1};
-    char line[64];
+    char line[300];
     int fd = accept4(control, NULL, NULL, SOCK_CLOEXEC);
     setsockopt(fd, SOL_SOCKET, SO_RCVTIMEO, &second, sizeof second);
     setsockopt(fd, SOL_SOCKET, SO_SNDTIMEO, &second, sizeof second);

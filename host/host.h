@@ -69,15 +69,21 @@ struct settings {
     struct given {
         const struct option *option;
         char *text;
-    } *given; /* options with a text, in their order */
-    int count, numbers[NUMBERS];
+        uint8_t *bytes; /* of a zone: what its file had when it was taken, or NULL if it never was */
+        size_t len;
+        time_t loaded; /* when it was taken */
+        char *refused; /* why its file is not taken now, or NULL */
+    } *given;          /* options with a text, in their order */
+    int count, zones, refused, numbers[NUMBERS];
     bool is_check;        /* the files are only to be read */
-    bool is_first;        /* they are read for the first time, to be served */
-    bool *has_failed;     /* for each text: a zone whose file is not taken, or a journal that could not be written. All
-                             processes share these */
+    bool *has_failed;     /* for each text: a journal that could not be written. All processes share these */
     zone_service service; /* at NULL if there is none */
 };
 extern struct settings *settings;
+#define EACH_GIVEN(g) for (struct given *g = settings->given; g < settings->given + settings->count; g++)
+static inline bool is_zone(const struct given *it) {
+    return it->option->set_pair == zone_service_add_zone;
+}
 
 /* What all processes share: what the workers counted, how many have closed their sockets to end, and a number that
  * grows when they are to begin a query log, and is odd if they are to have none. */
@@ -87,13 +93,18 @@ extern struct shared {
     uint32_t log_turn;
 } *shared;
 
-/* settings.c: given is the text of an option, the last if there are several, or NULL. read_arguments makes new
- * settings, and keeps the number of workers and the settings of before, if there are any. load makes the server that
- * they ask for, from their files. Both are 0, or -1 with a line on the standard error. read_all is the bytes of an open
- * file, or NULL. forget frees settings, if there are any. say reports what is wrong, and keeps it in said. */
+/* settings.c: find is the last option of this name, for the zone with whose name a text begins if that is given, or NULL;
+ * given its text. is_failed: queries for a zone get SERVFAIL, since its file was never taken. read_arguments makes new
+ * settings, and keeps the number of workers and the settings of before, if there are any. load makes the server that they
+ * ask for, from their files; a zone whose file is refused is as before. Both are 0, or another number with a line on the
+ * standard error. sum_up puts into said which zone files are refused. read_all is the bytes of an open file, or NULL.
+ * forget frees settings, if there are any. say reports what is wrong, and keeps it in said. */
 const char *given(const char *option);
+const struct given *find(const struct settings *in, const char *option, const char *zone);
+bool is_failed(const char *zone);
 int read_arguments(char **arguments);
-int load(void);
+int load(const struct settings *before);
+void sum_up(void);
 uint8_t *read_all(int fd, size_t *len);
 void forget(struct settings *old);
 extern char said[512];

@@ -128,9 +128,9 @@ static int open_journal(const char *text, bool *has_failed, int seconds) {
 int journals_open(int seconds) {
     files = calloc(2 * (size_t)settings->count, sizeof *files);
     int wrong = files == NULL ? complain("no memory") : 0;
-    for (int i = 0; !wrong && i < settings->count; i++)
-        if (strcmp(settings->given[i].option->name, "--journal") == 0)
-            wrong = open_journal(settings->given[i].text, &settings->has_failed[i], seconds);
+    EACH_GIVEN (it)
+        if (!wrong && strcmp(it->option->name, "--journal") == 0 && !is_failed(it->text))
+            wrong = open_journal(it->text, &settings->has_failed[it - settings->given], seconds);
     return wrong;
 }
 

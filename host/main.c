@@ -14,7 +14,7 @@ static struct worker {
 static int running;                      /* how many workers there are */
 static uint64_t started, begun, retired; /* when the first one began, one last began, and was last to end */
 static char **arguments;
-static char failure[sizeof said]; /* why the last reload failed, if it did */
+static char failure[sizeof said]; /* what was wrong with the files that were read last, if something was */
 bool is_over;
 
 /* Tells systemd, where it asked (sd_notify(3)). */
@@ -141,21 +141,29 @@ static bool begin(bool is_anew, struct settings *before) {
     return could;
 }
 
+/* Has systemd know that it is ready, and what was wrong with the files that were read last. */
+static void notify_ready(const char *how) {
+    char text[sizeof failure + 64];
+    snprintf(text, sizeof text, "STATUS=%s%s\nREADY=1\n", how, failure);
+    notify(text);
+}
+
 /* Without journals nothing can be wrong once the files are read, so the zones of before go first, and no worker has
- * both. With them the new worker may not begin. */
+ * both. With them the new worker may not begin. If only zone files are refused, all others are taken. */
 bool reload(void) {
-    char text[sizeof said + 64];
     struct settings *before = settings;
     notify("RELOADING=1\n");
     let_end(true);
-    bool is_read = read_arguments(arguments) == 0 && load() == 0, is_taken;
+    bool is_read = read_arguments(arguments) == 0 && load(before) == 0, is_taken;
     let_end(false);
     if (is_read && given("--journal") == NULL) {
         forget(before);
         before = NULL;
     }
     is_taken = is_read && (begin(true, before) || before == NULL);
-    snprintf(failure, sizeof failure, "%s", is_taken ? "" : said);
+    if (is_taken)
+        sum_up();
+    memcpy(failure, said, sizeof said);
     struct settings *left = is_taken ? before : settings;
     settings = is_taken ? settings : before;
     if (is_read && !is_taken) {
@@ -164,9 +172,8 @@ bool reload(void) {
     }
     forget(left);
     memcpy(said, failure, sizeof said);
-    snprintf(text, sizeof text, "STATUS=%s%s\nREADY=1\n", is_taken ? "" : "The last reload failed: ", failure);
-    notify(text);
-    return is_taken;
+    notify_ready(is_taken ? "" : "The last reload failed: ");
+    return *failure == 0;
 }
 
 void write_status(int fd) {
@@ -174,7 +181,8 @@ void write_status(int fd) {
             (uintmax_t)(milliseconds(CLOCK_MONOTONIC) - started) / SECOND);
     for (int i = 0; i < running; i++)
         dprintf(fd, "worker %d: process %d\n", i, workers[i].pid);
-    dprintf(fd, "the last reload: %s\n", *failure != 0 ? failure : "nothing is wrong");
+    dprintf(fd, "zones: %d; refused zone files: %d\nthe last start or reload: %s\n", settings->zones, settings->refused,
+            *failure != 0 ? failure : "nothing is wrong");
 }
 
 /* Notes the end of a child, if one has ended: its number, or what waitpid(2) says. */
@@ -300,7 +308,7 @@ int main(int count __attribute__((unused)), char **words) {
     if (read_arguments(arguments) != 0)
         return 2;
     if (settings->is_check)
-        return (let_end(true), load() != 0);
+        return (let_end(true), load(NULL) != 0 || settings->refused > 0);
     running = settings->numbers[WORKERS];
     for (int i = -1; i < running; i++)
         if (open_sockets(i < 0 ? NULL : &workers[i].sockets) != 0)
@@ -310,14 +318,16 @@ int main(int count __attribute__((unused)), char **words) {
     sigaction(SIGINT, &ends, NULL);
     let_end(true);
     /* The files are read without privileges, as they will be at a reload. */
-    if (let_privileges_go() != 0 || load() != 0)
+    if (let_privileges_go() != 0 || load(NULL) != 0)
         return 1;
     let_end(false);
     started = milliseconds(CLOCK_MONOTONIC);
     if (share() != 0 || listen_at("--statistics", 0, &statistics) != 0 || listen_at("--control", 0660, &control) != 0 ||
         !begin(true, NULL))
         return 1;
-    notify("READY=1\n");
+    sum_up();
+    memcpy(failure, said, sizeof said);
+    notify_ready("");
     for (int fd = signalfd(-1, &signals, SFD_CLOEXEC | SFD_NONBLOCK); !is_to_end(fd); kill_late())
         replace_ended();
     if (!is_over)

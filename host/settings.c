@@ -1,8 +1,8 @@
 /* The arguments and the configuration file of zoned, and the server that the proved library makes of them. */
 #include "host.h"
 
-#define NO_ROOM "more settings than there is room for" /* a fault of zone_service_read_settings */
-#define STEP 1024                                      /* options for which memory is taken at a time */
+#define STEP 1024 /* options for which memory is taken at a time */
+#define ROOM 64   /* bytes that the settings of a byte of a configuration may take */
 
 struct settings *settings;
 char said[512];
@@ -46,11 +46,24 @@ static const struct option options[] = {
     {"--tcp-client", "connections of a client and worker", .number = TCP_CLIENT, 1, 100000, 100},
     {.name = NULL}};
 
-const char *given(const char *option) {
-    for (const struct given *g = settings->given + settings->count; g > settings->given;)
-        if (strcmp((--g)->option->name, option) == 0)
-            return g->text;
+/* The length of the zone's name that a text begins with, without the dot at its end. */
+static size_t name_length(const char *text) {
+    size_t len = strcspn(text, "=");
+    return len > 1 && text[len - 1] == '.' ? len - 1 : len;
+}
+
+const struct given *find(const struct settings *in, const char *option, const char *zone) {
+    size_t len = zone != NULL ? name_length(zone) : 0;
+    for (const struct given *g = in->given + in->count; g > in->given;)
+        if (strcmp((--g)->option->name, option) == 0 &&
+            (zone == NULL || (name_length(g->text) == len && strncasecmp(g->text, zone, len) == 0)))
+            return g;
     return NULL;
+}
+
+const char *given(const char *option) {
+    const struct given *it = find(settings, option, NULL);
+    return it != NULL ? it->text : NULL;
 }
 
 static void help(void) {
@@ -64,15 +77,13 @@ static void help(void) {
 
 /* Keeps the text of an option: 0, or -1. */
 static int keep(const struct option *option, const char *text) {
-    struct given *more = settings->given;
-    if (settings->count % STEP == 0)
-        more = realloc(more, (size_t)(settings->count + STEP) * sizeof *more);
-    if (more != NULL)
-        settings->given = more;
-    char *copy = more != NULL ? strdup(text) : NULL;
-    if (copy == NULL)
+    size_t room = (size_t)(settings->count + STEP) * sizeof *settings->given;
+    struct given *more = settings->count % STEP > 0 ? settings->given : realloc(settings->given, room);
+    char *copy = strdup(text);
+    if (more == NULL || copy == NULL)
         return complain("no memory");
-    settings->given[settings->count++] = (struct given){option, copy};
+    settings->given = more;
+    settings->given[settings->count++] = (struct given){.option = option, .text = copy};
     return 0;
 }
 
@@ -106,7 +117,7 @@ uint8_t *read_all(int fd, size_t *len) {
     for (*len = 0; got > 0 && (more = realloc(bytes, *len + step)) != NULL; *len += got > 0 ? (size_t)got : 0)
         got = read(fd, (bytes = more) + *len, step);
     if (got == 0)
-        return bytes;
+        return (more = realloc(bytes, *len + 1)) != NULL ? more : bytes;
     free(bytes);
     return NULL;
 }
@@ -129,12 +140,12 @@ static uint8_t fault[256];
 static size_t fault_len;
 #define FAULT fault, sizeof fault, &fault_len
 
-/* Reports it, if there is something. If it begins with a line, that is one of the file. */
+/* Reports it, if there is something, and returns the library's number. What begins with a line is of the file. */
 static int told(const char *file, const char *what, uint32_t set) {
     const char *says = (const char *)fault, *blank = says[strspn(says, "0123456789")] == ':' ? "" : " ";
     if (set != ZONE_SERVICE_DONE || fault_len > 0)
         say("%s:%s%.*s", *blank == 0 ? file : what, blank, (int)fault_len, says);
-    return set == ZONE_SERVICE_DONE ? 0 : -1;
+    return (int)set;
 }
 
 /* The names of all options, with a zero after each. */
@@ -146,34 +157,18 @@ static const uint8_t *option_names(size_t *len) {
     return names;
 }
 
-/* What the library reads in a configuration file: names and values, with a zero after each, or NULL. How much room they
- * need is not known before. */
-static char *read_settings(const char *path, const uint8_t *text, size_t len, size_t *put) {
-    size_t names_len, room = 4096 + len;
-    const uint8_t *names = option_names(&names_len);
-    char *read = NULL;
-    uint32_t is = ZONE_SERVICE_MEMORY;
-    do {
-        free(read);
-        room *= 2;
-        fault_len = 0;
-        if ((read = malloc(room)) != NULL)
-            is = zone_service_read_settings(names, names_len, text, len, (uint8_t *)read, room, put, FAULT);
-    } while (fault_len == sizeof NO_ROOM - 1 && memcmp(fault, NO_ROOM, fault_len) == 0);
-    if (read == NULL)
-        say("no memory");
-    else if (told(path, path, is) == 0)
-        return read;
-    free(read);
-    return NULL;
-}
-
-/* Takes the settings of a configuration file. */
+/* Takes the settings of a configuration file. The library puts a name and a value for each, with a zero after both. The
+ * names of an option and of a zone are put again for each of their values. */
 static int read_config(const char *path) {
-    size_t len, put = 0;
+    size_t len, names_len, put = 0;
     uint8_t *text = read_file(path, &len);
-    char *read = text != NULL ? read_settings(path, text, len, &put) : NULL;
-    int wrong = read == NULL ? -1 : 0;
+    const uint8_t *names = option_names(&names_len);
+    char *read = text != NULL ? malloc(ROOM * (len + 1)) : NULL;
+    int wrong = text == NULL   ? -1
+                : read == NULL ? complain("no memory")
+                               : told(path, path,
+                                      zone_service_read_settings(names, names_len, text, len, (uint8_t *)read,
+                                                                 ROOM * (len + 1), &put, FAULT));
     free(text);
     for (char *at = read; !wrong && at < read + put; at += strlen(at) + 1) {
         const char *name = at;
@@ -183,27 +178,16 @@ static int read_config(const char *path) {
     return wrong;
 }
 
-/* The length of the zone's name that a text begins with, without the dot at its end. */
-static size_t name_length(const char *text) {
-    size_t len = strcspn(text, "=");
-    return len > 1 && text[len - 1] == '.' ? len - 1 : len;
-}
-
-/* Whether no journal keeps the updates that this option allows, if it allows any. */
-static bool is_lost(const struct given *rule) {
-    size_t len = name_length(rule->text);
-    bool is = strcmp(rule->option->name, "--allow-update") == 0;
-    for (const struct given *g = settings->given; is && g < settings->given + settings->count; g++)
-        is = strcmp(g->option->name, "--journal") != 0 || name_length(g->text) != len ||
-             strncasecmp(g->text, rule->text, len) != 0;
-    return is;
+bool is_failed(const char *zone) {
+    const struct given *it = find(settings, "--zone", zone);
+    return it != NULL && it->bytes == NULL;
 }
 
 /* Whether options go together: 0, or -1. */
 static int agree(void) {
     bool loses = false, listens = given("--listen") != NULL, is_adopted = adopted_sockets() > 0;
-    for (const struct given *g = settings->given; !loses && g < settings->given + settings->count; g++)
-        loses = is_lost(g);
+    EACH_GIVEN (g)
+        loses |= strcmp(g->option->name, "--allow-update") == 0 && find(settings, "--journal", g->text) == NULL;
     if (given("--zone") == NULL)
         return complain("--zone is missing");
     if (listens && is_adopted)
@@ -235,39 +219,58 @@ int read_arguments(char **arguments) {
             wrong = read_config(*++a);
         else
             wrong = put_option(*a, 2, a[1]), a++;
-    settings->is_first = running == 0 && !settings->is_check;
     if (running > 0)
         settings->numbers[WORKERS] = running;
     return wrong ? -1 : agree();
 }
 
-/* Tells the library of a text: 0, or -1. */
-static int set(zone_service *service, const struct option *o, const char *text) {
-    const char *mark = o->set_pair != NULL ? strchr(text, '=') : NULL, *value = mark != NULL ? mark + 1 : text;
+/* A zone whose file is refused is served as before, or its queries are answered SERVFAIL: 0, or another number. */
+static int keep_zone(struct given *g, const struct settings *before) {
+    const struct given *old = before != NULL ? find(before, "--zone", g->text) : NULL;
+    const uint8_t *name = (const uint8_t *)g->text;
+    size_t len = strcspn(g->text, "=");
+    bool is_kept = old != NULL && old->bytes != NULL;
+    g->refused = strdup(said);
+    if (is_kept && (g->bytes = malloc(old->len + 1)) != NULL) {
+        g->len = old->len;
+        g->loaded = old->loaded;
+        memcpy(g->bytes, old->bytes, g->len);
+    }
+    if (g->refused == NULL || (is_kept && g->bytes == NULL))
+        return complain("no memory");
+    int wrong = (int)(is_kept ? zone_service_add_zone(&settings->service, name, len, g->bytes, g->len, FAULT)
+                              : zone_service_fail_zone(&settings->service, name, len, FAULT));
+    if (!wrong && !settings->is_check)
+        is_kept ? warnx("%s: the zone is served as before", g->text)
+                : warnx("%s: queries for the zone get SERVFAIL until a reload", g->text);
+    settings->refused++;
+    return wrong;
+}
+
+/* Gives the library a text, or what is in its file: 0, or another number. What a zone's file has is kept. */
+static int set(struct given *g, const struct settings *before) {
+    const struct option *o = g->option;
+    const uint8_t *name = (const uint8_t *)g->text;
+    const char *mark = o->set_pair != NULL ? strchr(g->text, '=') : NULL, *value = mark != NULL ? mark + 1 : g->text;
     char what[sizeof said];
-    snprintf(what, sizeof what, "%s: \"%.250s\"", o->name, text);
+    snprintf(what, sizeof what, "%s: \"%.250s\"", o->name, g->text);
     size_t len = strlen(value);
     uint8_t *bytes = o->is_file ? read_file(value, &len) : (uint8_t *)strdup(value);
-    if (bytes == NULL)
-        return -1;
-    const uint8_t *name = (const uint8_t *)text;
-    uint32_t is = o->set != NULL ? o->set(service, bytes, len, FAULT)
-                                 : o->set_pair(service, name, (size_t)(mark - text), bytes, len, FAULT);
+    uint32_t is = bytes == NULL    ? ZONE_SERVICE_FAULT
+                  : o->set != NULL ? o->set(&settings->service, bytes, len, FAULT)
+                                   : o->set_pair(&settings->service, name, (size_t)(mark - g->text), bytes, len, FAULT);
+    if (bytes != NULL)
+        told(value, o->is_file && mark == NULL ? value : what, is);
+    settings->zones += is_zone(g);
+    if (is == ZONE_SERVICE_DONE && is_zone(g)) {
+        *g = (struct given){o, g->text, bytes, len, time(NULL), NULL};
+        return 0;
+    }
     free(bytes);
-    return told(value, o->is_file && mark == NULL ? value : what, is);
+    return is == ZONE_SERVICE_FAULT && is_zone(g) ? keep_zone(g, before) : (int)is;
 }
 
-/* Has queries for a zone whose file is not taken answered SERVFAIL, when zoned starts: 0, or -1. */
-static int fail_zone(const struct given *g) {
-    size_t len = strcspn(g->text, "=");
-    if (!settings->is_first || g->option->set_pair != zone_service_add_zone || g->text[len] == 0)
-        return -1;
-    settings->has_failed[g - settings->given] = true;
-    warnx("%s: queries for the zone get SERVFAIL until a reload", g->text);
-    return told(NULL, g->text, zone_service_fail_zone(&settings->service, (const uint8_t *)g->text, len, FAULT));
-}
-
-int load(void) {
+int load(const struct settings *before) {
     const int *n = settings->numbers;
     zone_service *service = &settings->service;
     settings->has_failed =
@@ -278,12 +281,22 @@ int load(void) {
         told(NULL, "--max-udp", zone_service_set_max_udp(service, (uint16_t)n[MAX_UDP], FAULT)) ||
         told(NULL, "--rate-limit", zone_service_set_rate_limit(service, (uint32_t)n[RATE], (uint32_t)n[SLIP], FAULT));
     for (const struct option *o = options; o->name != NULL; o++)
-        for (const struct given *g = settings->given; !wrong && g < settings->given + settings->count; g++)
-            wrong = g->option == o && (o->set != NULL || o->set_pair != NULL) && set(service, o, g->text) != 0 &&
-                    fail_zone(g) != 0;
-    wrong = wrong ? -1 : told(NULL, "--allow-update", zone_service_serve_zones(service, FAULT));
+        EACH_GIVEN (g)
+            if (!wrong && g->option == o && (o->set != NULL || o->set_pair != NULL))
+                wrong = set(g, before);
+    wrong = wrong ? wrong : told(NULL, "--allow-update", zone_service_serve_zones(service, FAULT));
     malloc_trim(0);
     return wrong;
+}
+
+void sum_up(void) {
+    const struct given *g = settings->given;
+    *said = 0;
+    while (settings->refused > 0 && g->refused == NULL)
+        g++;
+    if (settings->refused > 0)
+        snprintf(said, sizeof said, "refused zone files: %d of %d; the first: %s", settings->refused, settings->zones,
+                 g->refused);
 }
 
 void forget(struct settings *old) {
@@ -293,8 +306,11 @@ void forget(struct settings *old) {
         zone_service_free(old->service);
     if (old->has_failed != NULL)
         munmap(old->has_failed, (size_t)old->count);
-    for (int i = 0; i < old->count; i++)
-        free(old->given[i].text);
+    for (struct given *g = old->given; g < old->given + old->count; g++) {
+        free(g->text);
+        free(g->bytes);
+        free(g->refused);
+    }
     free(old->given);
     free(old);
     malloc_trim(0);

@@ -18,14 +18,15 @@ int listen_at(const char *option, mode_t mode, int *fd) {
     if (path == NULL)
         return 0;
     if (strlen(path) >= sizeof at.sun_path)
-        return complain("%s: cannot be a socket: it has more than %zu bytes", path, sizeof at.sun_path - 1);
+        return complain("%s: \"%s\" cannot be a socket: it has more than %zu bytes", option, path,
+                        sizeof at.sun_path - 1);
     *fd = socket(AF_UNIX, SOCK_STREAM | SOCK_NONBLOCK | SOCK_CLOEXEC, 0);
     strcpy(at.sun_path, path);
     if (stat(path, &there) == 0 && S_ISSOCK(there.st_mode))
         unlink(path);
     if (bind(*fd, (struct sockaddr *)&at, sizeof at) != 0 || (mode != 0 && chmod(path, mode) != 0) ||
         listen(*fd, 64) != 0)
-        return complain("%s: cannot be a socket: %s", path, strerror(errno));
+        return complain("%s: \"%s\" cannot be a socket: %s", option, path, strerror(errno));
     return 0;
 }
 

@@ -1,11 +1,13 @@
 #!/usr/bin/env python3
-"""tries.py ZONED: tries what zoned does with sockets, clients and signals, and each rule of a server, on loopback. The last line is
-'N passed, M failed'. PORT is the first of five ports that it uses, ZONE_SERVE the zone_serve that it is compared with, unless COMPARED
-is empty, and KILLS how often a zoned with a journal is killed."""
+"""tries.py ZONED [PART..]: tries what zoned does with sockets, clients and signals, and each rule of a server, on loopback, or only parts
+that need a folder and a port, as journal_kills, crashes and full_disks. The last line is 'N passed, M failed'. PORT is the first of five
+ports that it uses, ZONE_SERVE the zone_serve that it is compared with, unless COMPARED is empty, KILLS how often a zoned with a journal is
+killed, and FULL in how many rounds its disk is full."""
 import hmac
 import importlib.machinery
 import os
 import random
+import re
 import resource
 import signal
 import socket
@@ -20,7 +22,7 @@ PORT = int(os.environ.get("PORT", "16351"))
 ZONE_SERVE = os.environ.get("ZONE_SERVE", os.path.join(os.path.dirname(os.path.dirname(os.path.abspath(__file__))), "crates/zone_serve/out/zone_serve"))
 SOA_AND_NS = "$TTL 60\n@ IN SOA ns admin 7 3600 1800 604800 86400\n@ IN NS ns\n"
 WWW = "www IN A 192.0.2.%d\n"
-KILLS = int(os.environ.get("KILLS", "40"))
+KILLS, FULL = int(os.environ.get("KILLS", "40")), int(os.environ.get("FULL", "3"))
 passed = failed = 0
 
 
@@ -364,8 +366,8 @@ def try_signals(host, notified, zone):
     open(zone, "w").write("nonsense")
     host.send_signal(signal.SIGHUP)
     notified.recv(100)
-    want("and why one failed", notified.recv(1000).startswith(f"STATUS=The last reload failed: {zone}:1:9: ".encode()))
-    want("a bad zone is not taken, and the old one goes on", udp(query("www.example.com"))[-4:] == bytes([192, 0, 2, 2]))
+    want("and why a file was not taken", notified.recv(1000).startswith(f"STATUS=refused zone files: 1 of 1; the first: {zone}:1:9: ".encode()))
+    want("its zone is served as before", udp(query("www.example.com"))[-4:] == bytes([192, 0, 2, 2]))
     os.kill(children(host.pid)[-1], signal.SIGKILL)
     time.sleep(1.8)
     want("a worker that is killed is begun again", udp(query("www.example.com"))[-4:] == bytes([192, 0, 2, 2]))
@@ -689,11 +691,8 @@ def try_journal(folder, port):
         read(old.makefile("rb"))
         kept.host.send_signal(signal.SIGHUP)
         want("a reload ends connections to the process before it", closes(old, 3) and wait_for(port))
-    before = children(kept.host.pid)
     open(kept.zone, "w").write("nonsense")
-    kept.host.send_signal(signal.SIGHUP)
-    time.sleep(0.5)
-    want("a bad zone file is not taken, and the worker goes on", set(children(kept.host.pid)) <= set(before) and kept.has({"reloaded"}) == {"reloaded"})
+    want("a bad zone file is not taken, and the zone goes on", kept.reload() and kept.has({"reloaded"}) == {"reloaded"})
     open(kept.zone, "w").write(SOA_AND_NS)
     with tcp(port) as s:
         s.sendall(frame(query("p2.dyn.example.com")))
@@ -761,7 +760,7 @@ def try_one_writer(folder, port):
     here = ["--listen", f"127.0.0.1@{port}"]
     entry = update("a.dyn.example.com", 1).replace(b"com", b"net")
     os.remove(kept.journal + "-wal")
-    for what, text, says in (("of another zone", b"\1" + len(entry).to_bytes(4, "big") + entry + b"\0", "an entry is no update of this zone"), ("that is a text", b"@ IN SOA ns admin 1 2 3 4 5\n", "not a journal")):
+    for what, text, says in (("of another zone", b"\1" + len(entry).to_bytes(4, "big") + entry + b"\0", "an entry is not an update of this zone"), ("that is a text", b"@ IN SOA ns admin 1 2 3 4 5\n", "not a journal")):
         open(kept.journal, "wb").write(text)
         status_is, said = told([*here, *kept.words])
         want(f"a journal {what} is reported", status_is == 1 and f"zoned: {kept.journal}: {says}\n" in said)
@@ -935,6 +934,64 @@ def try_journal_full(folder, port):
         want("and it ends", kept.end())
     finally:
         subprocess.run(["umount", "-l", disk])
+
+
+def two_names(label):
+    """An update that adds two names, of which a zone has both or none."""
+    message = update(f"{label}a.dyn.example.com", 7)
+    return signed(message[:9] + b"\x02" + message[10:] + message[message.index(wire(f"{label}a.dyn.example.com")) :].replace(wire(f"{label}a")[:-1], wire(f"{label}b")[:-1], 1))
+
+
+def fill(kept, clients):
+    """Has so many updates of two names at hand at a time be answered until the journal is not written: the labels that were acknowledged, and the others."""
+    made, others = set(), set()
+    while "the journal is not written" not in kept.said() and len(made) < 20000:
+        labels = [f"n{len(made) + len(others) + it}" for it in range(clients)]
+        with tcp(kept.port) as s:
+            s.sendall(b"".join(frame(two_names(it)) for it in labels))
+            f = s.makefile("rb")
+            try:
+                answered = {it for it in labels if (reply := read(f)) and code(reply) == 0}
+            except OSError:
+                answered = set()
+        made |= answered
+        others |= set(labels) - answered
+    return made, others
+
+
+def full_disk(kept, disk, chance):
+    """What is wrong when the disk of a journal gets full, and after a reload, a start and room."""
+    kept.start()
+    made, others = fill(kept, chance.choice([1, 7, 50]))
+    names, wanted = {f"{it}{end}" for it in made | others for end in "ab"}, {f"{it}{end}" for it in made for end in "ab"}
+    if not made or kept.says(": No space left on device\n") != 1:
+        return f"the disk was not full after {len(made)} updates"
+    for what, again in (("the failure", lambda: wait_for(kept.port)), ("a reload", kept.reload), ("a kill of all", lambda: kept.kill("all"))):
+        if not again() or kept.has(names) != wanted:
+            return f"after {what} the zone is not as acknowledged"
+    subprocess.run(["mount", "-o", "remount,size=16m", disk], check=True)
+    if not kept.reload() or kept.has(names) != wanted or kept.update("later") != 0:
+        return "with room updates do not go on"
+    return None if kept.end() else "it does not end"
+
+
+def try_full_disks(folder, port):
+    """Rounds in which the file system of a journal gets full, after another number of updates each time: all of them are there after that, and none half."""
+    chance, faults = random.Random(10), []
+    for _ in range(FULL):
+        disk = tempfile.mkdtemp(dir=folder)
+        if subprocess.run(["mount", "-t", "tmpfs", "-o", f"size={4 * chance.randrange(8, 100)}k", "tmpfs", disk], stderr=subprocess.DEVNULL).returncode != 0:
+            print("note: nothing can be mounted here, so no full file system is tried")
+            return
+        kept = Kept(folder, port)
+        kept.words[-1] = f"example.com={disk}/journal"
+        try:
+            faults += [it for it in [full_disk(kept, disk, chance)] if it]
+        finally:
+            if kept.host.poll() is None:
+                kept.host.kill()
+            subprocess.run(["umount", "-l", disk])
+    want(f"{FULL} rounds with a full disk {faults[:1] or ''}", not faults)
 
 
 def send_updates(kept, name, over_tcp_too, stop, told_of, seconds=0.3):
@@ -1199,7 +1256,7 @@ def try_pipes(folder, zone, port):
         it.write("nonsense")
     host.send_signal(signal.SIGHUP)
     time.sleep(0.7)
-    want("a fault that nobody reads leaves all processes as they are", host.poll() is None and udp(query("www.example.com"), port=port) is not None and children(host.pid) == worker)
+    want("a fault that nobody reads ends nothing", host.poll() is None and udp(query("www.example.com"), port=port) is not None)
     with open(zone, "w") as it:
         it.write(text)
     host.terminate()
@@ -1441,6 +1498,8 @@ def try_control(folder, port):
     status_is, said = control(path, "status")
     want("status has a line for each process", status_is == 0 and said.startswith("zoned ") and all(f"process {it}" in said for it in (host.pid, *children(host.pid))))
     want("zones has the file of each zone", control(path, "zones") == (0, f"zone example.com={zone}\n"))
+    status_is, said = control(path, "zonestatus", "EXAMPLE.com.")
+    want("zonestatus says when one was loaded", status_is == 0 and re.fullmatch(rf"zone example.com={zone}\nloaded: \d{{4}}-\d\d-\d\d \d\d:\d\d:\d\d UTC\n", said))
     status_is, said = control(path, "stats")
     want("stats has the counters", status_is == 0 and 'zoned_queries_total{transport="udp"} ' in said and "\nzoned_journal_failures_total 0\n" in said)
     seen = []
@@ -1450,8 +1509,8 @@ def try_control(folder, port):
     want("after reload each answer is from the files", seen == [((0, ""), last) for last in range(2, 22)])
     open(zone, "w").write("nonsense")
     status_is, said = control(path, "reload")
-    want("a reload that fails says why", status_is == 1 and said.startswith(f"{zone}:1:9: ") and len(said.splitlines()) == 1)
-    want("the settings of before hold", udp(query("www.example.com"), port=port)[-1] == 21)
+    want("a reload of a bad file says why", status_is == 1 and said.startswith(f"refused zone files: 1 of 1; the first: {zone}:1:9: ") and len(said.splitlines()) == 1)
+    want("the zone is served as before", udp(query("www.example.com"), port=port)[-1] == 21)
     want("and status says so", said in control(path, "status")[1])
     open(zone, "w").write(SOA_AND_NS + WWW % 22)
     want("until the next one", control(path, "reload") == (0, "") and "nothing is wrong" in control(path, "status")[1])
@@ -1464,7 +1523,7 @@ def try_control(folder, port):
         want(f"and {grows} of 5 queries have a line", len(open(log).readlines()) - before == grows)
     os.rename(log, log + ".1")
     want("querylog off and on begins a file that was moved away", control(path, "querylog", "off")[0] == control(path, "querylog", "on")[0] == 0 and udp(query("www.example.com"), port=port) and goes_on(lambda: len(open(log).readlines()) == 1, 2))
-    for words in (["nonsense"], ["querylog"], ["querylog", "maybe"], ["x" * 500]):
+    for words in (["nonsense"], ["querylog"], ["querylog", "maybe"], ["zonestatus"], ["statuses"], ["x" * 500]):
         status_is, said = control(path, *words)
         want("what is not a command is reported", status_is == 1 and said.endswith('" is not a command of zonedctl\n'))
     want("no command is too few, and three are too many", [control(None)[0], control(path, "querylog", "on", "now")[0]] == [2, 2])
@@ -1482,26 +1541,77 @@ def try_control(folder, port):
     want("it ends", host.wait(5) == 0)
 
 
+def last_of(name, port):
+    """The last octet of the address that a name has, or the code of an answer without one."""
+    reply = udp(query(name), port=port)
+    return reply[-1] if answers(reply) else -code(reply)
+
+
 def try_bad_zones(folder, port):
-    """Zones whose files are not taken: at a start they get SERVFAIL, and the others are answered; a reload changes nothing until the files are mended."""
+    """Zones whose files are not taken: a zone that was never taken gets SERVFAIL, another one is served as before, and all others are taken."""
     good, bad, none, path = (os.path.join(folder, it) for it in ("good.zone", "bad.zone", "none.zone", "bad.control"))
-    open(good, "w").write(SOA_AND_NS + WWW % 1)
-    open(bad, "w").write("nonsense")
+    names = ("www.example.com", "www.sub.example.com", "www.example.net")
+
+    def write(*lasts):
+        for it, last in zip((good, bad, none), lasts):
+            open(it, "w").write(SOA_AND_NS + WWW % last if last else "nonsense")
+
+    def served():
+        return [last_of(it, port) for it in names]
+
+    write(1, 0)
     words = ["--zone", f"example.com={good}", "--zone", f"sub.example.com={bad}", "--zone", f"example.net={none}"]
+    status_is, said = told(["--check", *words])
+    want("--check reports each bad file, and no more", status_is == 1 and len(said.splitlines()) == 2 and f"zoned: {bad}:1:9: " in said and f"zoned: {none}: cannot be read" in said)
     host = start([*words, "--control", path], port, stderr=subprocess.PIPE, text=True)
-    want("a server with bad zones starts, and answers the good one", wait_for(port) and udp(query("www.example.com"), port=port)[-1] == 1)
-    want("the bad ones are answered SERVFAIL, also below a good one", [code(udp(query(it), port=port)) for it in ("www.sub.example.com", "example.net")] == [2, 2])
+    want("a server with bad zones starts, and answers SERVFAIL for them, also below a good one", wait_for(port) and served() == [1, -2, -2])
     want("zones says which they are", control(path, "zones")[1].count("(not taken: SERVFAIL)\n") == 2)
-    open(good, "w").write(SOA_AND_NS + WWW % 2)
-    want("a reload with them fails, and changes nothing", control(path, "reload")[0] == 1 and udp(query("www.example.com"), port=port)[-1] == 1)
-    for it in (bad, none):
-        open(it, "w").write(SOA_AND_NS + WWW % 3)
-    want("once they are mended it is done", control(path, "reload") == (0, "") and udp(query("www.sub.example.com"), port=port)[-1] == 3)
-    want("zones says so", "SERVFAIL" not in control(path, "zones")[1])
+    want("status counts them", "\nzones: 3; refused zone files: 2\n" in control(path, "status")[1])
+    write(2, 0)
+    status_is, said = control(path, "reload")
+    want("a reload takes the good file, and says that others are refused", status_is == 1 and said.startswith(f"refused zone files: 2 of 3; the first: {bad}:1:9: ") and served() == [2, -2, -2])
+    write(3, 3, 3)
+    want("once they are mended it is done", control(path, "reload") == (0, "") and served() == [3, 3, 3])
+    want("zones and status say so", "taken" not in control(path, "zones")[1] and "\nzones: 3; refused zone files: 0\n" in control(path, "status")[1])
+    write(4, 0, 4)
+    for turn in range(2):
+        want(f"a bad file leaves its zone as it was, and the others are taken ({turn})", control(path, "reload")[0] == 1 and served() == [4, 3, 4])
+    os.kill(children(host.pid)[0], signal.SIGKILL)
+    want("also after its worker ended", goes_on(lambda: udp(query(names[0]), 0.3, port) is not None, 5) and served() == [4, 3, 4])
+    os.remove(good)
+    want("so does a file that is gone", control(path, "reload")[0] == 1 and served() == [4, 3, 4])
+    want("zones says which they are", control(path, "zones")[1].count("(not taken: as before)\n") == 2)
+    said = control(path, "zonestatus", "sub.example.com")[1]
+    want("zonestatus says why", said.startswith(f"zone sub.example.com={bad} (not taken: as before)\nloaded: 2") and f"\nrefused: {bad}:1:9: " in said)
+    want("and that there is no such zone", control(path, "zonestatus", "example.org") == (1, '"example.org" is not a zone of this server\n'))
+    write(5, 5, 5)
+    want("once they are mended all are taken", control(path, "reload") == (0, "") and served() == [5, 5, 5])
     host.terminate()
     said = host.communicate(timeout=15)[1]
-    want("they were logged, each with its file", f"sub.example.com={bad}: " in said and f"{none}: cannot be read" in said and host.returncode == 0)
+    want("they were logged, each with its file", f"sub.example.com={bad}: queries for the zone get SERVFAIL" in said and f"sub.example.com={bad}: the zone is served as before\n" in said and host.returncode == 0)
     want("a zone that is given twice ends the start", told(["--listen", f"127.0.0.1@{port}", *words, "--zone", f"example.com={good}"])[0] == 1)
+
+
+def try_bad_zone_with_journal(folder, port):
+    """A zone with a journal whose file is not taken: at a start it gets SERVFAIL, and another one is answered; at a reload it stays as its journal has it."""
+    kept, path, other = Kept(folder, port), os.path.join(folder, "bad_kept_control"), os.path.join(folder, "other.zone")
+    open(other, "w").write(SOA_AND_NS + WWW % 9)
+    kept.words += ["--control", path, "--zone", f"example.net={other}"]
+    kept.start()
+    text = open(kept.zone).read()
+    want("a zone with a journal takes an update", kept.update("a") == 0)
+    open(kept.zone, "w").write("nonsense")
+    open(other, "w").write(SOA_AND_NS + WWW % 8)
+    want("a reload with its file bad takes the other file", control(path, "reload")[0] == 1 and last_of("www.example.net", port) == 8)
+    want("and the zone goes on as its journal has it", kept.has({"a"}) == {"a"} and kept.update("b") == 0 and kept.has({"a", "b"}) == {"a", "b"})
+    want("it ends", kept.end())
+    kept.start()
+    want("at a start it gets SERVFAIL, and the other zone is answered", [last_of(it, port) for it in ("www.example.com", "www.example.net")] == [-2, 8])
+    want("an update of it is not taken", kept.update("c") != 0)
+    want("zones says so", control(path, "zones")[1] == f"zone example.com={kept.zone} (not taken: SERVFAIL)\njournal example.com={kept.journal} (not opened)\nzone example.net={other}\n")
+    open(kept.zone, "w").write(text)
+    want("once it is mended, it is as its journal has it", control(path, "reload") == (0, "") and kept.has({"a", "b", "c"}) == {"a", "b"} and kept.update("c") == 0)
+    want("it ends", kept.end())
 
 
 def try_journal_control(folder, port):
@@ -1524,7 +1634,7 @@ def try_one_server(zone, port):
     host = start(words, port)
     want("the first server is ready", wait_for(port))
     for address in ("127.0.0.1", "0.0.0.0"):
-        want(f"a second one at {address} is refused", told(["--listen", f"{address}@{port}", *words]) == (1, f"zoned: {address}@{port}: Address already in use\n"))
+        want(f"a second one at {address} is refused", told(["--listen", f"{address}@{port}", *words]) == (1, f'zoned: --listen: "{address}@{port}": Address already in use\n'))
     for number in (signal.SIGTERM, signal.SIGKILL):
         with tcp(port) as s:
             s.sendall(frame(query("www.example.com")))
@@ -1706,6 +1816,10 @@ def try_two_configurations(folder, zone, port):
 def main():
     folder = tempfile.mkdtemp()
     os.chmod(folder, 0o755)
+    if parts := sys.argv[2:]:
+        for it in parts:
+            globals()[f"try_{it}"](folder, PORT + 4)
+        return
     zone, bad, broad = (os.path.join(folder, it) for it in ("zone", "bad", "broad"))
     large = "".join(f'large IN TXT "{i:03}{"x" * 200}"\n' for i in range(24))
     records = "".join(f'h{i} IN TXT "{"x" * 200}"\n' for i in range(20000 - 24))
@@ -1721,7 +1835,7 @@ def main():
     host = start([*words, "--statistics", path], PORT, env={**os.environ, "NOTIFY_SOCKET": os.path.join(folder, "notify")})
     other = start(["--zone", f"example.com={zone}", "--max-udp", "600"], PORT + 1)
     try:
-        want("systemd is told that it is ready", notified.recv(100) == b"READY=1\n")
+        want("systemd is told that it is ready", notified.recv(100) == b"STATUS=\nREADY=1\n")
         want("the second is ready", wait_for(PORT + 1))
         try_clients()
         try_same(zone)
@@ -1743,10 +1857,11 @@ def main():
     try_joined(folder, PORT + 2)
     try_configuration(folder, zone, PORT + 2)
     try_keys(folder, zone, PORT + 2)
-    for it in (try_journal, try_journal_clients, try_one_writer, try_journal_configuration, try_journal_limit, try_journal_at_once, try_journal_full, try_journal_kills, try_crashes, try_journal_reloads, try_frozen, try_journal_control):
+    for it in (try_journal, try_journal_clients, try_one_writer, try_journal_configuration, try_journal_limit, try_journal_at_once, try_journal_full, try_full_disks, try_journal_kills, try_crashes, try_journal_reloads, try_frozen, try_journal_control):
         it(folder, PORT + 4)
     try_control(folder, PORT + 2)
     try_bad_zones(folder, PORT + 2)
+    try_bad_zone_with_journal(folder, PORT + 4)
     try_activation(zone, PORT + 2)
     try_log(folder, zone, PORT + 2)
     try_pipes(folder, zone, PORT + 2)

@@ -169,8 +169,9 @@ size_t zone_service_take(zone_service *service, uint8_t *out, size_t room, size_
  * zone_service_stop_updates: an operation of a journal failed: from now on its zone refuses updates, and nothing more is
  *     noted of its files. No reply of the batch may leave. The zone may have updates that the files lack; a process that
  *     opens the files again has exactly theirs.
- * zone_service_compact, outside of a batch and when nothing is noted: notes how a journal that is too long is made
- *     shorter, in its other file. DONE; FAULT with a text, if it is too long and stays so; or MEMORY. */
+ * zone_service_compact, outside of a batch: notes how a journal that is too long is made shorter, in its other file.
+ *     DONE; FAULT with a text, if it is too long and stays so, or if operations are noted of its files: then nothing is
+ *     done; or MEMORY. */
 enum { ZONE_SERVICE_WRITE = 0, ZONE_SERVICE_SET_LENGTH = 1, ZONE_SERVICE_SYNC = 2 };
 struct zone_service_operation {
     uint32_t kind;

@@ -16,7 +16,8 @@ int main(int count, char **words) {
     char **command = words + (has_path ? 3 : 1);
     count -= has_path ? 3 : 1;
     if (count < 1 || count > 2 || strlen(path) >= sizeof at.sun_path)
-        errx(2, "usage: zonedctl [--control PATH] status|reload|zones|stats|querylog on|querylog off|stop");
+        errx(2,
+             "usage: zonedctl [--control PATH] status|reload|zones|zonestatus ZONE|stats|querylog on|querylog off|stop");
     strcpy(at.sun_path, path);
     int fd = socket(AF_UNIX, SOCK_STREAM, 0);
     if (connect(fd, (struct sockaddr *)&at, sizeof at) != 0)

@@ -13,6 +13,9 @@ pub enum Fault {
     /// The text for the name of the apex is not a name.
     #[error("not the name of a zone")]
     Origin,
+    /// The text for the time is not a number of seconds.
+    #[error("not a time in seconds since 1970")]
+    Time,
     /// An allocation failed.
     #[error("no memory")]
     Memory,
@@ -28,7 +31,7 @@ impl Fault {
     /// Its exit status.
     pub fn status(self) -> u8 {
         match self {
-            Fault::Arguments | Fault::Origin => 2,
+            Fault::Arguments | Fault::Origin | Fault::Time => 2,
             Fault::Memory => 3,
             Fault::Write => 4,
             Fault::Record => 5,

@@ -1,6 +1,7 @@
-//! What is found of a zone file before it is served: `check_zone ORIGIN FILE [--previous FILE] [--print]` prints a line
-//! for each finding on the standard output; under `--print` there the records, each as a line, and the findings on the
-//! standard error. `check_zone --version` prints its name and version, and `check_zone --help` how it is started.
+//! What is found of a zone file before it is served: `check_zone ORIGIN FILE [--previous FILE] [--at SECONDS] [--print]`
+//! prints a line for each finding on the standard output; under `--print` there the records, each as a line, and the
+//! findings on the standard error. `check_zone --version` prints its name and version, and `check_zone --help` how it is
+//! started.
 //!
 //! The status is 0 where nothing is found, 1 where all that is found are warnings, 2 for wrong arguments, 3 without
 //! memory, 4 where the output fails, and 5 where a fault is found or a file is not taken, which is told on the standard
@@ -19,7 +20,8 @@ use clap::error::ErrorKind;
 use clap::{Arg, ArgAction, ArgMatches, Command, Error};
 use std::alloc::{AllocError, Global};
 use std::process::ExitCode;
-use std::rt::{Env, Files};
+use std::rt::{Clock, Env, Files};
+use std::time::{SystemTime, UNIX_EPOCH};
 use std::{env, io, str};
 use wire_names::error::NameError;
 use wire_names::rr::domain::name::Name;
@@ -39,6 +41,9 @@ fn command<'a>(alloc: Global) -> Result<Command<'a>, AllocError> {
         .long("previous")
         .value_name("FILE")
         .help("the zone file that is served today, whose serial must be below");
+    let at = Arg::new(alloc, "at").long("at").value_name("SECONDS").help(
+        "the time at which signatures are to be valid, in seconds since 1970; else it is now",
+    );
     let print = Arg::new(alloc, "print")
         .long("print")
         .action(ArgAction::SetTrue)
@@ -49,6 +54,7 @@ fn command<'a>(alloc: Global) -> Result<Command<'a>, AllocError> {
         .arg(origin)?
         .arg(file)?
         .arg(previous)?
+        .arg(at)?
         .arg(print)
 }
 
@@ -176,6 +182,7 @@ fn print_findings<R: Files + Print + Eprint + Alloc<A = Global>>(
     origin: &Name,
     file: &str,
     previous: Option<u32>,
+    time: Option<u32>,
     with_records: bool,
 ) -> u8 {
     let bytes = match read_bytes(rt, file) {
@@ -186,7 +193,7 @@ fn print_findings<R: Files + Print + Eprint + Alloc<A = Global>>(
         Ok(records) => records,
         Err(fault) => return tell_of_entries(rt, origin, file, bytes.as_slice(), &fault),
     };
-    let Ok(findings) = check(rt.alloc(), origin, records.as_slice(), previous) else {
+    let Ok(findings) = check(rt.alloc(), origin, records.as_slice(), previous, time) else {
         return tell(rt, Fault::Memory);
     };
     let Ok(places) = places_in(rt, bytes.as_slice()) else {
@@ -204,8 +211,35 @@ fn print_findings<R: Files + Print + Eprint + Alloc<A = Global>>(
     }
 }
 
+/// A time in seconds since 1970 as signatures have it, modulo 2^32.
+fn time_of(seconds: u64) -> u32 {
+    (seconds % 0x1_0000_0000) as u32
+}
+
+/// The time of the clock, if it can be read.
+fn now<R: Clock>(rt: &R) -> Option<u32> {
+    let Ok(time) = SystemTime::now(rt) else {
+        return None;
+    };
+    match time.duration_since(UNIX_EPOCH) {
+        Ok(passed) => Some(time_of(passed.as_secs())),
+        Err(_) => None,
+    }
+}
+
+/// The time at which signatures are to be valid, or the status after the fault of its argument is reported.
+fn given_time<R: Clock + Eprint>(rt: &R, matches: &ArgMatches<'_>) -> Result<Option<u32>, u8> {
+    let Some(text) = matches.get_str("at") else {
+        return Ok(now(rt));
+    };
+    match text.parse::<u64>() {
+        Ok(seconds) => Ok(Some(time_of(seconds))),
+        Err(_) => Err(tell_of_argument(rt, text, Fault::Time)),
+    }
+}
+
 /// Runs the program with these words, and gives its status.
-fn run_matches<R: Files + Print + Eprint + Alloc<A = Global>>(
+fn run_matches<R: Clock + Files + Print + Eprint + Alloc<A = Global>>(
     rt: &R,
     matches: &ArgMatches<'_>,
 ) -> u8 {
@@ -216,12 +250,16 @@ fn run_matches<R: Files + Print + Eprint + Alloc<A = Global>>(
         Ok(origin) => origin,
         Err(fault) => return tell_of_argument(rt, text, fault),
     };
+    let time = match given_time(rt, matches) {
+        Ok(time) => time,
+        Err(status) => return status,
+    };
     let with_records = matches.get_flag("print");
     let Some(previous) = matches.get_str("previous") else {
-        return print_findings(rt, &origin, file, None, with_records);
+        return print_findings(rt, &origin, file, None, time, with_records);
     };
     match serial_of(rt, &origin, previous) {
-        Ok(serial) => print_findings(rt, &origin, file, Some(serial), with_records),
+        Ok(serial) => print_findings(rt, &origin, file, Some(serial), time, with_records),
         Err(status) => status,
     }
 }
@@ -268,7 +306,7 @@ fn given_words<R: Env + Alloc<A = Global>>(rt: &R) -> Result<Vec<String>, Fault>
 }
 
 /// Runs the program, and gives its status.
-fn run<R: Files + Env + Print + Eprint + Alloc<A = Global>>(rt: &R) -> u8 {
+fn run<R: Clock + Files + Env + Print + Eprint + Alloc<A = Global>>(rt: &R) -> u8 {
     let words = match given_words(rt) {
         Ok(words) => words,
         Err(fault) => return tell(rt, fault),

@@ -63,7 +63,7 @@ module _ {V : Type 0} (by : Ghosts V) where
   each_redone (r ∷ requests) (t ∷ told) old new each =
       one_redone r.0 r.1 t.0 t.1 (accepted requests told) old each.0 new each.1 (each_redone requests told each.0 new each.2)
 
-  one_read : (r : ReceivedRequest) (answer : Result Bool UpdateFault) (others : List ReceivedRequest) → OnOk answer (IsRead r) → AreRead others → AreRead (if_accepted answer r others)
+  pub one_read : (r : ReceivedRequest) (answer : Result Bool UpdateFault) (others : List ReceivedRequest) → OnOk answer (IsRead r) → AreRead others → AreRead (if_accepted answer r others)
   one_read r (Ok changed) others read rest = (read, rest)
   one_read r (Err fault) others read rest = rest
 

@@ -29,7 +29,7 @@ module _ {V D : Type 0} (by : Ghosts V) (disks : DiskGhosts D) where
       written = commits.written;
       each = each;
       ends = ends commits.written commits.is_told;
-      err = subst (λ (l : List (List ℕ)). IfErr commits.written (IsWriteFault (RefusesEntries disks.is_usable new.journal l))) is commits.err;
+      err = subst (λ (l : List (List ℕ)). IfErr commits.written (IsWriteFault (RefusesEntries new.journal.is_open l))) is commits.err;
     };
     journals = subst (λ (l : List (List ℕ)). JournalsAll disks.seen disks.may_leave commits.written l old.journal new.journal) is commits.journals;
   }
@@ -49,5 +49,5 @@ module _ {V D : Type 0} (by : Ghosts V) (disks : DiskGhosts D) where
 
     -- what it tells of the zone alone
     pub of_the_zone : (result : Result T E) → IfOk result (λ told. ServesAll by disks requests (told_of told) old new) → IfOk result (λ told. AnswersBatch (λ entries. Unit {0}) by requests (told_of told) old.zone new.zone)
-    of_the_zone (Ok told) all = for_any_reason (RefusesEntries disks.is_usable new.journal) by requests (told_of told) old.zone new.zone all.answers
+    of_the_zone (Ok told) all = for_any_reason (RefusesEntries new.journal.is_open) by requests (told_of told) old.zone new.zone all.answers
     of_the_zone (Err e) all = tt

@@ -1,5 +1,5 @@
 -- What a crash leaves while a journal is compacted.
-use Rattle.std.proofs.Common.{◌≡◌, ◌⊎◌, inl, inr, ◌+◌, ◌<◌, ◌≤◌, ◌^◌, ◌∙◌, ℕ, List, [], ◌∷◌, ◌++◌, Bool, true, false, cond, IsTrue, Result, Ok, Err, ap, refl, subst, sym}
+use Rattle.std.proofs.Common.{◌≡◌, ◌⊎◌, inl, inr, ◌+◌, ◌<◌, ◌≤◌, ◌^◌, ◌∙◌, ℕ, List, [], ◌∷◌, ◌++◌, Bool, true, false, cond, IsTrue, OnOk, Result, Ok, Err, ap, refl, subst, sym}
 use Rattle.std.proofs.lemmas.Bool.{cases_lt}
 use Rattle.std.proofs.lemmas.List.{append-nil}
 use Rattle.hickory_base.specs.requests.Requests.{ReceivedRequest}
@@ -108,6 +108,19 @@ module _ {D : Type 0} (disks : DiskGhosts D) where
       by : (entries : List (List ℕ)) (doubt : List ReceivedRequest) → IsOpen disks entries doubt journal ⊎ IsFailed disks entries doubt journal → IsFailed disks entries doubt (record journal { is_open = false })
       by entries doubt (inl o) = record { shut = refl; leaves = λ c left. inl (rests disks.seen disks.may_leave journal.disk journal.end entries o.settled c left) }
       by entries doubt (inr f) = record { shut = refl; leaves = f.leaves }
+
+  -- only a journal that takes entries is compacted, and then takes more
+  pub done_open : (zone : MemoryZone) (generation : ℕ) (old : Files D) (result : Result (Unit {0}) CompactError) (new : Files D) → Compacts disks zone generation old result new
+      → OnOk result ((old.journal.is_open ≡ true) × (new.journal.is_open ≡ true))
+  done_open zone generation old result new undone = tt
+  done_open zone generation old result new (done written may replaces other takes settled) = (may.takes, takes)
+  done_open zone generation old result new (failed written may replaces left) = tt
+
+  pub stays_shut : (zone : MemoryZone) (generation : ℕ) (old : Files D) (result : Result (Unit {0}) CompactError) (new : Files D) → Compacts disks zone generation old result new
+      → old.journal.is_open ≡ false → new.journal.is_open ≡ false
+  stays_shut zone generation old result new undone shut = shut
+  stays_shut zone generation old result new (done written may replaces other takes settled) shut = absurd (let no : false ≡ true = sym shut ∙ may.takes in cc)
+  stays_shut zone generation old result new (failed written may replaces left) shut = absurd (let no : false ≡ true = sym shut ∙ may.takes in cc)
 
   pub still_durable : (zone : MemoryZone) (generation : ℕ) (old : Files D) (result : Result (Unit {0}) CompactError) (new : Files D) → Compacts disks zone generation old result new
       → IsDurable disks zone old.journal → IsSpare disks old.spare → IsDurable disks zone new.journal × IsSpare disks new.spare

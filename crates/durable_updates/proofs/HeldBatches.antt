@@ -70,7 +70,7 @@ module _ {V D : Type 0} (by : Ghosts V) (disks : DiskGhosts D) where
           written = Err fault;
           each = was.0;
           ends = (refl, refl);
-          err = subst (λ (l : List (List ℕ)). IsWriteFault (RefusesEntries disks.is_usable new l) fault) was.1 why;
+          err = subst (λ (l : List (List ℕ)). IsWriteFault (RefusesEntries new.is_open l) fault) was.1 why;
         };
         journals = subst (λ (l : List (List ℕ)). JournalsAll disks.seen disks.may_leave {T = Unit {0}} {E = UpdateFault} (Err fault) l old new) was.1 journals;
       }

@@ -15,9 +15,9 @@ use Rattle.durable_updates.specs.Holding.{IsAhead, IsKeptBut}
 use Rattle.durable_updates.specs.Journalling.{JournalsAll}
 use Rattle.durable_updates.specs.Recorded.{IsDurable}
 use Rattle.durable_updates.specs.Redone.{Redone}
-use Rattle.durable_updates.specs.ReadRequests.{those_read}
+use Rattle.durable_updates.specs.ReadRequests.{AreRead, those_read}
 use Rattle.durable_updates.specs.Runs.{Server, ServesOne, after_answer}
-use Rattle.durable_updates.proofs.Accepted.{each_redone}
+use Rattle.durable_updates.proofs.Accepted.{each_redone, one_read}
 use Rattle.durable_updates.proofs.Entries.{more, nothing_done}
 use Rattle.durable_updates.proofs.Histories.{Took, bytes_more, one_on, step_on}
 
@@ -29,7 +29,11 @@ module _ {D : Type 0} (disks : DiskGhosts D) where
 
   -- nothing waits yet
   pub none_held : (zone : MemoryZone) (journal : JournalState D) → IsDurable disks zone journal → IsAhead disks zone journal []
-  none_held zone journal durable = record { requests = []; are = refl; written = zone; durable = durable; made = nothing_done zone }
+  none_held zone journal durable = record { requests = []; are = refl; read = tt; written = zone; durable = durable; made = nothing_done zone }
+
+all_read : (first others : List ReceivedRequest) → AreRead first → AreRead others → AreRead (first ++ others)
+all_read [] others read rest = rest
+all_read (r ∷ first) others read rest = (read.0, all_read first others read.1 rest)
 
 module _ {V D : Type 0} (by : Ghosts V) (disks : DiskGhosts D) where
   -- one update more
@@ -40,6 +44,7 @@ module _ {V D : Type 0} (by : Ghosts V) (disks : DiskGhosts D) where
       let bytes : bytes_of (ahead.requests ++ added) ≡ bytes_of ahead.requests ++ bytes_of added = bytes_more [] ahead.requests added in
       record {
         requests = ahead.requests ++ added;
+        read = all_read ahead.requests added ahead.read (one_read by r answer [] answers.1 tt);
         are = is ∙ ap (λ (l : List (List ℕ)). l ++ bytes_of added) ahead.are ∙ sym bytes;
         written = ahead.written;
         durable = ahead.durable;
@@ -76,6 +81,7 @@ module _ {V D : Type 0} (by : Ghosts V) (disks : DiskGhosts D) where
     unsettled fault journals = record {
       requests = ahead.requests;
       are = ahead.are;
+      read = ahead.read;
       written = ahead.written;
       durable = λ is_clean.
           let was = ahead.durable (subst IsTrue clean is_clean) in

@@ -13,3 +13,4 @@ pub mod Followed
 pub mod HeldBatches
 pub mod HeldZones
 pub mod Done
+pub mod Below

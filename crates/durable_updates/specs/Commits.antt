@@ -21,5 +21,5 @@ module _ {V D : Type 0} (disks : DiskGhosts D) where
   pub record Commits (before : List (RrKey × List (Record RData))) (entries : List (List ℕ)) (judged told : List Told) (old new : Server V D) : Type 0 where
     pub written : Result (Unit {0}) UpdateFault
     pub is_told : IsToldAs written before judged told old.zone new.zone
-    pub err : IfErr written (IsWriteFault (RefusesEntries disks.is_usable new.journal entries))
+    pub err : IfErr written (IsWriteFault (RefusesEntries new.journal.is_open entries))
     pub journals : JournalsAll disks.seen disks.may_leave written entries old.journal new.journal

@@ -1,5 +1,5 @@
 -- What a durable update answers. Updates follow the RFCs also where the Rust crate hickory-server differs from them.
-use Rattle.std.specs.Prelude.{◌≡◌, ◌⊎◌, false, true, Err, None}
+use Rattle.std.specs.Prelude.{◌≡◌, ◌⊎◌, Bool, false, true, Err, None}
 use Rattle.hickory_base.specs.requests.Updates.{UpdateMessage, update_of}
 use Rattle.hickory_base.specs.zone_store.ZoneAnswers.{MemoryZone}
 use Rattle.hickory_base.specs.zone_store.ZoneSets.{zone_records}
@@ -13,6 +13,7 @@ use Rattle.hickory_store.specs.updates.Prescan.{prescan_refusal}
 use Rattle.hickory_store.specs.updates.UpdatableZone.{UpdatableZone}
 use Rattle.hickory_store.specs.updates.UpdateAnswers.{AnswersUpdate, Outcome, Updates, applied, message_outcome}
 use Rattle.hickory_store.specs.declared.updates.verifier.Verifier.{Ghosts}
+use Rattle.durable_updates.specs.Journalling.{RefusesEntry}
 
 -- what a request is answered, and what goes with that for the signer of the reply
 abbrev pub Told : Type 0
@@ -31,6 +32,11 @@ pub record IsAccepted {V : Type 0} (by : Ghosts V) (old : UpdatableZone V) (requ
 -- Only such an update may stay unwritten, or one whose message was not read from its bytes.
 abbrev pub MayStayUnwritten : {V : Type 0} → Ghosts V → UpdatableZone V → TimedRequest → Type 0
 MayStayUnwritten by old request = (request.0.was_read ≡ false) ⊎ IsAccepted by old request
+
+-- Such an update stays unwritten only if the journal refuses it: after the call the journal takes no entries, or the
+-- entry is too long.
+abbrev pub StaysUnwritten : {V : Type 0} → Ghosts V → UpdatableZone V → TimedRequest → Bool → Type 0
+StaysUnwritten by old request takes = (request.0.was_read ≡ false) ⊎ (IsAccepted by old request × RefusesEntry takes request.0.bytes)
 
 -- Why a request is not written: ServFail, which is 2, for this reason; or want of memory.
 abbrev pub IsWriteFault : Type 0 → UpdateFault → Type 0

@@ -35,6 +35,6 @@ module _ {V D : Type 0} (by : Ghosts V) (disks : DiskGhosts D) where
   abbrev pub UnwrittenAreABatch : Type 0
   UnwrittenAreABatch =
       (requests : List TimedRequest) (told : List Told) (first ahead : UpdatableZone V) (entries : List (List ℕ)) (old new : JournalState D) (fault : UpdateFault)
-      → AreHeld by first requests told ahead entries → IsWriteFault (RefusesEntries disks.is_usable new entries) fault
+      → AreHeld by first requests told ahead entries → IsWriteFault (RefusesEntries new.is_open entries) fault
       → JournalsAll disks.seen disks.may_leave {T = Unit {0}} {E = UpdateFault} (Err fault) entries old new
       → ServesAll by disks requests (map (told_unwritten fault) told) (record { zone = first; journal = old }) (record { zone = first; journal = new })

@@ -9,18 +9,21 @@ use Rattle.sqlite_disk.specs.declared.Disk.{Ghosts as DiskGhosts}
 use Rattle.journal.specs.JournalState.{JournalState}
 use Rattle.durable_updates.specs.Batches.{bytes_of}
 use Rattle.durable_updates.specs.Recorded.{IsDurable, IsSpare}
+use Rattle.durable_updates.specs.ReadRequests.{AreRead}
 use Rattle.durable_updates.specs.Redone.{Redone}
 
--- a zone as it is in memory, and whether it holds updates
+-- a zone as it is in memory, whether it holds updates, and whether its journal takes entries
 pub record ZoneInMemory (V : Type 0) : Type 0 where
   pub updatable : UpdatableZone V
   pub holds : Bool
+  pub takes_entries : Bool
 
 module _ {D : Type 0} (disks : DiskGhosts D) where
   -- These entries are requests that wait to be written: done to a zone that the journal keeps, they make this one.
   pub record IsAhead (zone : MemoryZone) (journal : JournalState D) (entries : List (List ℕ)) : Type 0 where
     pub requests : List ReceivedRequest
     pub are : entries ≡ bytes_of requests
+    pub read : AreRead requests
     pub written : MemoryZone
     pub durable : IsDurable disks written journal
     pub made : Redone (bytes_of requests) written zone

@@ -2,20 +2,20 @@
 use Rattle.std.specs.Prelude.{◌≡◌, ◌⊎◌, ◌≤◌, ◌^◌, ℕ, Bool, length, true, false, List, [], ◌∷◌, ◌++◌, Result, OnErr, OnOk}
 use Rattle.hickory_base.specs.requests.Requests.{ReceivedRequest}
 use Rattle.journal.specs.Frames.{AreTooLong, IsBeforeOrAfter}
-use Rattle.journal.specs.JournalState.{IsShut, JournalState}
+use Rattle.journal.specs.JournalState.{JournalState}
 use Rattle.journal.specs.Settled.{IsSettled}
 
 -- The journal takes no entry any more, or this one is too long for it.
-abbrev pub RefusesEntry : {D : Type 0} → (D → Bool) → JournalState D → List ℕ → Type 0
-RefusesEntry is_usable journal entry = IsShut is_usable journal ⊎ (2 ^ 32 ≤ length entry)
+abbrev pub RefusesEntry : Bool → List ℕ → Type 0
+RefusesEntry takes entry = (takes ≡ false) ⊎ (2 ^ 32 ≤ length entry)
 
 -- The same of the entries of a batch: one of them, or all together, may be too long.
-abbrev pub RefusesEntries : {D : Type 0} → (D → Bool) → JournalState D → List (List ℕ) → Type 0
-RefusesEntries is_usable journal entries = IsShut is_usable journal ⊎ AreTooLong entries
+abbrev pub RefusesEntries : Bool → List (List ℕ) → Type 0
+RefusesEntries takes entries = (takes ≡ false) ⊎ AreTooLong entries
 
 -- So it is with the entry of a request, or its message was not read from its bytes.
-abbrev pub RefusesRequest : {D : Type 0} → (D → Bool) → JournalState D → ReceivedRequest → Type 0
-RefusesRequest is_usable journal request = (request.was_read ≡ false) ⊎ RefusesEntry is_usable journal request.bytes
+abbrev pub RefusesRequest : Bool → ReceivedRequest → Type 0
+RefusesRequest takes request = (request.was_read ≡ false) ⊎ RefusesEntry takes request.bytes
 
 module _ {D : Type 0} (seen : D → List ℕ) (may_leave : D → List ℕ → Type 0) where
   -- An entry is added where the answer is Ok, and is then on the disk. After an error the journal is as before, or it

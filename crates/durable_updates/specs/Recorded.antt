@@ -1,10 +1,10 @@
 -- What a server keeps in memory and on the disk while it serves.
-use Rattle.std.specs.Prelude.{◌≡◌, ◌⊎◌, ℕ, true, false, IsTrue, List, [], ◌++◌, Result, Ok}
+use Rattle.std.specs.Prelude.{◌≡◌, ◌⊎◌, ◌+◌, ◌<◌, ◌^◌, ℕ, true, false, IsTrue, List, [], ◌++◌, Result, Ok}
 use Rattle.hickory_base.specs.requests.Requests.{ReceivedRequest}
 use Rattle.hickory_base.specs.zone_store.ZoneAnswers.{MemoryZone}
 use Rattle.sqlite_disk.specs.declared.Disk.{Ghosts as DiskGhosts}
 use Rattle.journal.specs.Frames.{IsBeforeOrAfter}
-use Rattle.journal.specs.Generations.{StandFor}
+use Rattle.journal.specs.Generations.{StandFor, generation_of}
 use Rattle.journal.specs.JournalState.{JournalState}
 use Rattle.journal.specs.Read.{contents}
 use Rattle.journal.specs.JournalFile.{IsJournal}
@@ -45,6 +45,16 @@ module _ {D : Type 0} (disks : DiskGhosts D) where
   -- A file that a journal may be compacted into: it takes no entry, or what it has is on the disk.
   abbrev pub IsSpare : JournalState D → Type 0
   IsSpare spare = IsTrue (disks.is_clean spare.disk) → (spare.is_open ≡ false) ⊎ ((entries : List (List ℕ)) × IsSettled disks.seen disks.may_leave spare entries)
+
+  -- The entries of the journal have a lower generation than this one, unless no generation follows it: it is 2^64 - 1.
+  abbrev pub IsBelow : JournalState D → ℕ → Type 0
+  IsBelow journal generation = IsTrue (disks.is_clean journal.disk) → (journal.is_open ≡ false)
+      ⊎ ((entries : List (List ℕ)) × IsSettled disks.seen disks.may_leave journal entries × (generation + 1 < 2 ^ 64 → generation_of entries < generation))
+
+  -- A file that the journal may be compacted into, and the generation that it has then.
+  pub record IsNext (journal spare : JournalState D) (generation : ℕ) : Type 0 where
+    pub is_spare : IsSpare spare
+    pub below : IsBelow journal generation
 
   -- The zone is the one that the entries which were recovered from this disk make of the first.
   pub record IsRecovered (disk : D) (base new : MemoryZone) : Type 0 where

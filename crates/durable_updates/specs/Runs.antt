@@ -17,7 +17,7 @@ use Rattle.journal.specs.Recovery.{Recovers}
 use Rattle.journal.specs.declared.reading.Recovered.{Recovered}
 use Rattle.journal.specs.declared.error.RecoverError.{RecoverError}
 use Rattle.durable_updates.specs.Batches.{AnswersBatch, accepted, bytes_of}
-use Rattle.durable_updates.specs.DurableUpdates.{AnswersDurably, Told}
+use Rattle.durable_updates.specs.DurableUpdates.{AnswersDurably, IsAccepted, Told}
 use Rattle.durable_updates.specs.Journalling.{Journals, JournalsAll, RefusesEntries, RefusesRequest}
 use Rattle.durable_updates.specs.ReadRequests.{IsRead, those_read}
 use Rattle.durable_updates.specs.Redone.{Makes, Redone}
@@ -70,7 +70,7 @@ pub record Server (V D : Type 0) : Type 0 where
 module _ {V D : Type 0} (by : Ghosts V) (disks : DiskGhosts D) where
   -- A request is answered: the contract of `update_durably`.
   pub record ServesOne (request : ReceivedRequest) (now : ℕ) (answer : Result Bool UpdateFault) (context : Option TSigResponseContext) (old new : Server V D) : Type 0 where
-    pub answers : AnswersDurably (RefusesRequest disks.is_usable new.journal request) by old.zone (request, now) (answer, context) new.zone
+    pub answers : AnswersDurably (IsAccepted by old.zone (request, now) × RefusesRequest new.journal.is_open request) by old.zone (request, now) (answer, context) new.zone
     pub read : request.was_read ≡ true → IsRead request
     pub accepted : OnOk answer (request.was_read ≡ true)
     pub unread : request.was_read ≡ false → new.journal ≡ old.journal
@@ -80,7 +80,7 @@ module _ {V D : Type 0} (by : Ghosts V) (disks : DiskGhosts D) where
 
   -- Requests, each at its moment, are answered as one batch: the contract of `update_all_durably`.
   pub record ServesAll (requests : List TimedRequest) (told : List Told) (old new : Server V D) : Type 0 where
-    pub answers : AnswersBatch (RefusesEntries disks.is_usable new.journal) by requests told old.zone new.zone
+    pub answers : AnswersBatch (RefusesEntries new.journal.is_open) by requests told old.zone new.zone
     pub journals : JournalsAll disks.seen disks.may_leave answers.written (bytes_of (accepted requests answers.judged)) old.journal new.journal
 
   -- A disk has this file, and nothing else, as after a crash; its recovery answers so, and the disk told no lie: the

@@ -9,7 +9,7 @@ ghost use Rattle.durable_updates.specs.Journalling.{JournalsAll, RefusesEntries}
 ghost use Rattle.durable_updates.specs.Commits.{Commits};
 ghost use Rattle.durable_updates.specs.Runs.{ServesAll};
 
-use crate::updating::told_context;
+use crate::updating::{refused_by, told_context};
 use hickory_base::errors::UpdateFault;
 use hickory_base::server::Request;
 use hickory_base::zone_store::RecordSet;
@@ -100,8 +100,9 @@ fn judge_all<V: Verifier>(
 }
 
 /// Adds the entries of updates that were made in memory to the journal, all or none, with two syncs; none where there
-/// are none. Where the journal refuses them, that is ServFail, and `Memory` where memory was refused: then none of
-/// these updates is to be acknowledged, and the zone in memory is ahead of its journal.
+/// are none. If the journal refuses them, that is ServFail, and `Memory` if memory was refused: then none of these
+/// updates is to be acknowledged, and the zone in memory is ahead of its journal. A journal that cannot take them is
+/// shut from then on, unless they are too long.
 pub fn write_held<D: Disk>(
     journal: &mut Journal<D>,
     alloc: Global,
@@ -109,7 +110,7 @@ pub fn write_held<D: Disk>(
 ) -> Result<(), UpdateFault>
     ensures journals { JournalsAll D.seen D.may_leave result (contents entries.now) journal.old journal.new }
     ensures clean { D.is_clean journal.new.disk ≡ D.is_clean journal.old.disk }
-    ensures err { IfErr result (IsWriteFault (RefusesEntries D.is_usable journal.new (contents entries.now))) }
+    ensures err { IfErr result (IsWriteFault (RefusesEntries journal.new.is_open (contents entries.now))) }
 {
     if entries.is_empty() {
         return Ok(());
@@ -117,7 +118,7 @@ pub fn write_held<D: Disk>(
     match journal.append_all(alloc, entries) {
         Ok(()) => Ok(()),
         Err(JournalError::Memory) => Err(UpdateFault::Memory),
-        Err(JournalError::Shut) => Err(UpdateFault::Code(ResponseCode::SERV_FAIL)),
+        Err(JournalError::Shut) => Err(refused_by(journal)),
         Err(JournalError::TooLong) => Err(UpdateFault::Code(ResponseCode::SERV_FAIL)),
         Err(JournalError::Disk(_)) => Err(UpdateFault::Code(ResponseCode::SERV_FAIL)),
     }

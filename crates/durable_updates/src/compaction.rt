@@ -1,8 +1,9 @@
 //! A journal that is compacted into a second file.
 
-ghost use Rattle.std.specs.Prelude.{◌≡◌, ◌⊎◌, IfSome, false, true};
+ghost use Rattle.std.specs.Prelude.{◌≡◌, ◌⊎◌, IfSome, OnOk, false, true};
 ghost use Rattle.durable_updates.specs.Compactions.{Compacts};
-ghost use Rattle.durable_updates.specs.Recorded.{IsDurable, IsSpare};
+ghost use Rattle.journal.specs.JournalState.{JournalState};
+ghost use Rattle.durable_updates.specs.Recorded.{IsDurable, IsNext};
 
 use crate::snapshots::{SnapshotError, snapshot};
 use hickory_store::updates::{UpdatableZoneHandler, Verifier};
@@ -94,8 +95,12 @@ pub(crate) fn compact_into<V: Verifier, D: Disk + Drop>(
     spare: &mut Option<Spare<D>>,
     alloc: Global,
 ) -> Result<(), CompactError>
-    ensures { IsDurable D.Disk zone.now.zone journal.old → IfSome spare.old (λ s. IsSpare D.Disk s.journal) →
-        IsDurable D.Disk zone.now.zone journal.new × IfSome spare.new (λ s. IsSpare D.Disk s.journal) }
+    ensures kept { IsDurable D.Disk zone.now.zone journal.old →
+        IfSome spare.old (λ s. IsNext D.Disk journal.old s.journal s.generation) →
+        IsDurable D.Disk zone.now.zone journal.new ×
+        IfSome spare.new (λ s. IsNext D.Disk journal.new s.journal s.generation) }
+    ensures ok { OnOk result ((journal.old.is_open ≡ true) × (journal.new.is_open ≡ true)) }
+    ensures shut { journal.old.is_open ≡ false → journal.new.is_open ≡ false }
 {
     let Some(spare) = spare else {
         return Err(CompactError::OneFile);
@@ -107,7 +112,8 @@ pub(crate) fn compact_into<V: Verifier, D: Disk + Drop>(
 
 /// All operations of the spare file, if there is one, are done.
 pub(crate) fn spare_done<D: OwnedDisk + Drop>(spare: &mut Option<Spare<D>>)
-    ensures { IfSome spare.old (λ s. IsSpare D.Disk s.journal) → IfSome spare.new (λ s. IsSpare D.Disk s.journal) }
+    ensures { (journal : JournalState D) → IfSome spare.old (λ s. IsNext D.Disk journal s.journal s.generation) →
+        IfSome spare.new (λ s. IsNext D.Disk journal s.journal s.generation) }
 {
     if let Some(spare) = spare {
         spare.journal.operations_done();

@@ -3,7 +3,7 @@
 ghost use Rattle.std.specs.Prelude.{◌≡◌, ◌⊎◌, IfErr, IfOk, IfSome, IsTrue};
 ghost use Rattle.durable_updates.specs.Batches.{AnswersBatch};
 ghost use Rattle.sqlite_disk.specs.Disk.{Only};
-ghost use Rattle.durable_updates.specs.Recorded.{AreRecovered, IsDurable, IsHandedBack, IsOpenedFrom, IsRecovered, IsRefused, IsSpare};
+ghost use Rattle.durable_updates.specs.Recorded.{AreRecovered, IsDurable, IsHandedBack, IsNext, IsOpenedFrom, IsRecovered, IsRefused};
 ghost use Rattle.durable_updates.specs.Recovering.{counting};
 ghost use Rattle.durable_updates.specs.OpenErrors.{is_no_journal};
 ghost use Rattle.durable_updates.specs.Snapshots.{Recalls};
@@ -21,7 +21,7 @@ use crate::snapshots::recall;
 use hickory_base::server::Request;
 use hickory_base::zone_store::{InMemoryZoneHandler, ZoneHandler};
 use hickory_store::updates::{UpdatableZoneHandler, Verifier};
-use journal::{Journal, RecoverError, generation, recover};
+use journal::{Journal, RecoverError, recover};
 use sqlite_disk::Disk;
 use std::alloc::{AllocError, Global};
 use std::marker::Model;
@@ -65,14 +65,14 @@ pub struct JournalledZone<V: Verifier, D: Disk + Drop> {
 impl<V: Verifier, D: Disk + Drop> Model for JournalledZone<V, D> {
     ghost use Rattle.hickory_store.specs.updates.UpdatableZone.{UpdatableZone};
     ghost use Rattle.std.specs.Prelude.{IfSome};
-    ghost use Rattle.durable_updates.specs.Recorded.{IsDurable, IsSpare};
+    ghost use Rattle.durable_updates.specs.Recorded.{IsDurable, IsNext};
 
     ghost Value = { UpdatableZone V };
 
     ghost view = { λ handler. handler.zone };
 
     ghost invariant = { λ handler. IsDurable D.Disk handler.zone.zone handler.journal ×
-        IfSome handler.spare (λ s. IsSpare D.Disk s.journal) };
+        IfSome handler.spare (λ s. IsNext D.Disk handler.journal s.journal s.generation) };
 }
 
 impl<V: Verifier, D: Disk + Drop> JournalledZone<V, D> {
@@ -202,7 +202,7 @@ impl<V: Verifier, D: Disk + Drop> JournalledZone<V, D> {
         requires recalled { (base : MemoryZone) × Recalls (contents (counting found.now).items) base zone.zone }
         ensures { result ≡ zone }
     {
-        let generation = generation(found.entries()).saturating_add(1);
+        let generation = found.next_generation();
         let first = Journal::new(first, found.first.end);
         let second = Journal::new(second, found.second.end);
         if found.is_second {
@@ -220,7 +220,7 @@ impl<V: Verifier, D: Disk + Drop> JournalledZone<V, D> {
         generation: u64,
     ) -> JournalledZone<V, D>
         requires durable { IsDurable D.Disk zone.zone journal }
-        requires spare { IsSpare D.Disk spare }
+        requires spare { IsNext D.Disk journal spare generation }
         ensures { result ≡ zone }
     {
         JournalledZone {
@@ -314,7 +314,7 @@ impl<V: Verifier, D: Disk + Drop> JournalledZone<V, D> {
     pub(crate) fn into_whole(self) -> (UpdatableZoneHandler<V>, Journal<D>, Option<Spare<D>>)
         ensures zone { result.0 ≡ self }
         ensures durable { IsDurable D.Disk result.0.zone result.1 }
-        ensures spare { IfSome result.2 (λ s. IsSpare D.Disk s.journal) }
+        ensures spare { IfSome result.2 (λ s. IsNext D.Disk result.1 s.journal s.generation) }
     {
         let JournalledZone {
             zone,

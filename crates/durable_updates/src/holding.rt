@@ -1,9 +1,9 @@
 //! A zone with a journal that may hold updates, to have them written together.
 
-ghost use Rattle.std.specs.Prelude.{◌≡◌, ◌*◌, ◌-◌, ◌^◌, ◌++◌, ◌∷◌, [], IfErr, IfOk, IsTrue, OnErr, OnOk, false, max, min, not, option_copied, true, ◌⊎◌};
+ghost use Rattle.std.specs.Prelude.{◌≡◌, ◌||◌, ◌*◌, ◌-◌, ◌^◌, ◌++◌, ◌∷◌, [], IfErr, IfOk, IsTrue, OnErr, OnOk, false, max, min, not, option_copied, true, ◌⊎◌};
 ghost use Rattle.journal.specs.Read.{contents};
 ghost use Rattle.durable_updates.specs.Batches.{AnswersRead, bytes_of, if_accepted};
-ghost use Rattle.durable_updates.specs.DurableUpdates.{AnswersDurably, MayStayUnwritten};
+ghost use Rattle.durable_updates.specs.DurableUpdates.{AnswersDurably, StaysUnwritten};
 ghost use Rattle.durable_updates.specs.Holding.{AreFilesOf};
 ghost use Rattle.durable_updates.specs.OpenErrors.{is_no_journal};
 ghost use Rattle.durable_updates.specs.Recorded.{IsDurable, IsHandedBack, IsRefused};
@@ -86,8 +86,8 @@ pub fn update_held<V: Verifier>(
 /// syncs. Whoever holds updates gives no answer before they are settled, not to a query either: until then the zone in
 /// memory is ahead of the one on the disk.
 ///
-/// A contract sees the zone in memory, and whether it holds updates. What it keeps with its journal is `IsDurable`
-/// where it holds none, whatever is asked of it.
+/// A contract sees the zone in memory, whether it holds updates, and whether the journal takes entries. What the zone
+/// keeps with its journal is `IsDurable` if it holds none, whatever is asked of it.
 #[derive(Drop)]
 pub struct HoldingZone<V: Verifier, D: Disk + Drop> {
     zone: UpdatableZoneHandler<V>,
@@ -103,21 +103,25 @@ impl<V: Verifier, D: Disk + Drop> Model for HoldingZone<V, D> {
     ghost use Rattle.std.specs.Option.{is_some};
     ghost use Rattle.journal.specs.Read.{contents};
     ghost use Rattle.durable_updates.specs.Holding.{IsKeptBut, ZoneInMemory};
-    ghost use Rattle.durable_updates.specs.Recorded.{IsSpare};
+    ghost use Rattle.durable_updates.specs.Recorded.{IsNext};
 
     ghost Value = { ZoneInMemory V };
 
-    ghost view = { λ handler. record { updatable = handler.zone; holds = is_some handler.held } };
+    ghost view = { λ handler. record {
+      updatable = handler.zone;
+      holds = is_some handler.held;
+      takes_entries = handler.journal.is_open;
+    } };
 
     ghost invariant = { λ handler. IsKeptBut D.Disk handler.zone.zone handler.journal
         (option_map (λ entries. contents entries.items) handler.held) ×
-        IfSome handler.spare (λ s. IsSpare D.Disk s.journal) };
+        IfSome handler.spare (λ s. IsNext D.Disk handler.journal s.journal s.generation) };
 }
 
 impl<V: Verifier, D: Disk + Drop> HoldingZone<V, D> {
     /// A zone that holds no updates.
     pub fn new(zone: JournalledZone<V, D>) -> HoldingZone<V, D>
-        ensures { result ≡ record { updatable = zone; holds = false } }
+        ensures { result ≡ record { updatable = zone; holds = false; takes_entries = result.takes_entries } }
     {
         let (zone, journal, spare) = zone.into_whole();
         HoldingZone {
@@ -150,6 +154,7 @@ impl<V: Verifier, D: Disk + Drop> HoldingZone<V, D> {
         ensures others { OnOk result.1 (result.0 ≡ record {
           updatable = record self.updatable { zone = result.0.updatable.zone };
           holds = false;
+          takes_entries = result.0.takes_entries;
         }) }
         ensures kept { OnErr result.1 (result.0 ≡ self) }
         ensures err { IfErr result.1 (λ e. IsHandedBack D.Disk first e.1 × IsHandedBack D.Disk second e.2) }
@@ -197,13 +202,15 @@ impl<V: Verifier, D: Disk + Drop> HoldingZone<V, D> {
 
     /// Whether the journal takes entries. Once it does not, every update is ServFail, be it held or not, until the zone
     /// is recovered from the file.
-    pub fn takes_updates(&self) -> bool {
+    pub fn takes_updates(&self) -> bool
+        ensures { result ≡ self.now.takes_entries }
+    {
         self.journal.is_open()
     }
 
     /// Shuts the journal, which takes no entries from then on. The zone and the updates that are held stay.
     pub fn shut(&mut self)
-        ensures { self.new ≡ self.old }
+        ensures { self.new ≡ record self.old { takes_entries = false } }
     {
         self.journal.shut();
     }
@@ -211,8 +218,7 @@ impl<V: Verifier, D: Disk + Drop> HoldingZone<V, D> {
     /// Has updates held from now on, until they are settled. A journal that takes no entries has none held: each update
     /// is ServFail as ever. It takes no memory.
     pub fn hold(&mut self, alloc: Global)
-        ensures zone { self.new.updatable ≡ self.old.updatable }
-        ensures kept { self.old.holds ≡ true → self.new.holds ≡ true }
+        ensures { self.new ≡ record self.old { holds = self.old.holds || self.old.takes_entries } }
     {
         if self.held.is_none() && self.journal.is_open() {
             self.held = Some(Vec::new(alloc));
@@ -224,8 +230,9 @@ impl<V: Verifier, D: Disk + Drop> HoldingZone<V, D> {
     /// be recovered from its files, and none of these updates is to be acknowledged. A crash at any moment leaves all
     /// of them on the disk, or none.
     pub fn settle(&mut self, alloc: Global) -> bool
-        ensures zone { self.new.updatable ≡ self.old.updatable }
-        ensures holds { self.new.holds ≡ not result }
+        ensures others { self.new ≡ record self.old { holds = not result; takes_entries = self.new.takes_entries } }
+        ensures written { result ≡ true → self.new.takes_entries ≡ self.old.takes_entries }
+        ensures shut { self.old.takes_entries ≡ false → self.new.takes_entries ≡ false }
     {
         let Some(entries) = &self.held else {
             return true;
@@ -238,11 +245,14 @@ impl<V: Verifier, D: Disk + Drop> HoldingZone<V, D> {
     }
 
     /// Makes an update. If updates are held, and the journal takes entries, it waits to be written; else it is on the
-    /// disk before the answer, as `update_durably` says.
+    /// disk before the answer, as `update_durably` says. An update that passes all checks and changes nothing is written
+    /// too.
     pub fn update(&mut self, alloc: Global, request: &Request, now: u64) -> UpdateAnswer
-        ensures answers { AnswersDurably (MayStayUnwritten V.Verifier self.old.updatable (request.now, now)) V.Verifier
-            self.old.updatable (request.now, now) result self.new.updatable }
-        ensures kept { OnErr result.0 (self.new ≡ self.old) }
+        ensures answers { AnswersDurably (StaysUnwritten V.Verifier self.old.updatable (request.now, now)
+            self.new.takes_entries) V.Verifier self.old.updatable (request.now, now) result self.new.updatable }
+        ensures written { OnOk result.0 ((self.old.takes_entries ≡ true) × (self.new.takes_entries ≡ true)) }
+        ensures shut { self.old.takes_entries ≡ false → self.new.takes_entries ≡ false }
+        ensures kept { OnErr result.0 (self.new.updatable ≡ self.old.updatable) }
         ensures holds { self.new.holds ≡ self.old.holds }
     {
         match &mut self.held {
@@ -277,11 +287,13 @@ impl<V: Verifier, D: Disk + Drop> HoldingZone<V, D> {
         }
     }
 
-    /// Compacts the journal, as [`JournalledZone::compact`] does. Where updates are held, that is the error `Held`, and
-    /// nothing is written.
+    /// Compacts the journal, as [`JournalledZone::compact`] does. If updates are held, that is the error `Held`, and
+    /// nothing is written. If the journal takes no entries, nothing is written either.
     pub fn compact(&mut self, alloc: Global) -> Result<(), CompactError>
-        ensures stays { self.new ≡ self.old }
-        ensures held { self.old.holds ≡ true → result ≡ Err CompactError.Held }
+        ensures others { self.new ≡ record self.old { takes_entries = self.new.takes_entries } }
+        ensures held { self.old.holds ≡ true → (result ≡ Err CompactError.Held) × (self.new ≡ self.old) }
+        ensures ok { OnOk result ((self.old.takes_entries ≡ true) × (self.new.takes_entries ≡ true)) }
+        ensures shut { self.old.takes_entries ≡ false → self.new.takes_entries ≡ false }
     {
         if self.held.is_some() {
             return Err(CompactError::Held);

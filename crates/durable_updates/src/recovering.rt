@@ -1,12 +1,14 @@
 //! Two files that a journal is in by turns.
 
-ghost use Rattle.std.specs.Prelude.{◌≡◌, ◌⊎◌, IfErr, IfOk, IsTrue};
+ghost use Rattle.std.specs.Prelude.{◌≡◌, ◌⊎◌, ◌+◌, ◌^◌, IfErr, IfOk, IsTrue};
 ghost use Rattle.sqlite_disk.specs.Disk.{Only};
 ghost use Rattle.durable_updates.specs.Recorded.{IsHandedBack, IsRefused};
 ghost use Rattle.durable_updates.specs.Recovering.{AreFound, counting};
 ghost use Rattle.journal.specs.Errors.{is_refusal};
+ghost use Rattle.journal.specs.Generations.{generation_of};
+ghost use Rattle.journal.specs.Read.{contents};
 
-use journal::{RecoverError, Recovered, is_newer, recover};
+use journal::{RecoverError, Recovered, generation, is_newer, recover};
 use sqlite_disk::Disk;
 use std::alloc::Global;
 
@@ -29,6 +31,13 @@ impl TwoRecovered {
         } else {
             &self.first.entries
         }
+    }
+
+    /// The generation that a compacted file has next: one more than that of the entries that count, or the last one.
+    pub(crate) fn next_generation(&self) -> u64
+        ensures { (result ≡ generation_of (contents (counting self.now).items) + 1) ⊎ (result + 1 ≡ 2 ^ 64) }
+    {
+        generation(self.entries()).saturating_add(1)
     }
 }
 

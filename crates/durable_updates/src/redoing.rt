@@ -22,7 +22,7 @@ use thiserror::Error;
 pub enum RedoError {
     /// It does not begin with a message, or the update section of that does not pass the prescan of this zone (RFC 2136
     /// section 3.4.1).
-    #[error("an entry is no update of this zone")]
+    #[error("an entry is not an update of this zone")]
     Damaged,
     /// Memory was refused.
     #[error("out of memory")]

@@ -18,8 +18,18 @@ use journal::{Journal, JournalError};
 use sqlite_disk::Disk;
 use std::alloc::Global;
 
-/// Adds a request to the journal. Where the journal refuses it, or its message was not read from its bytes, that is
-/// ServFail, and `Memory` where memory was refused.
+/// Why an update is not made that a journal refuses since it takes no entry: ServFail. The journal is shut from then on.
+pub(crate) fn refused_by<D: Disk>(refusing: &mut Journal<D>) -> UpdateFault
+    ensures fault { result ≡ UpdateFault.Code 2 }
+    ensures shut { refusing.new ≡ record refusing.old { is_open = false } }
+{
+    refusing.shut();
+    UpdateFault::Code(ResponseCode::SERV_FAIL)
+}
+
+/// Adds a request to the journal. If the journal refuses it, or its message was not read from its bytes, that is
+/// ServFail, and `Memory` if memory was refused. A journal that cannot take it is shut from then on, unless the entry is
+/// too long.
 fn write<D: Disk>(
     journal: &mut Journal<D>,
     alloc: Global,
@@ -29,7 +39,7 @@ fn write<D: Disk>(
     ensures unread { request.now.was_read ≡ false → journal.new ≡ journal.old }
     ensures journals { Journals D.seen D.may_leave result request.now.bytes journal.old journal.new }
     ensures clean { D.is_clean journal.new.disk ≡ D.is_clean journal.old.disk }
-    ensures err { IfErr result (IsWriteFault (RefusesRequest D.is_usable journal.new request.now)) }
+    ensures err { IfErr result (IsWriteFault (RefusesRequest journal.new.is_open request.now)) }
 {
     if !request.was_read() {
         return Err(UpdateFault::Code(ResponseCode::SERV_FAIL));
@@ -37,7 +47,7 @@ fn write<D: Disk>(
     match journal.append(alloc, request.as_slice()) {
         Ok(()) => Ok(()),
         Err(JournalError::Memory) => Err(UpdateFault::Memory),
-        Err(JournalError::Shut) => Err(UpdateFault::Code(ResponseCode::SERV_FAIL)),
+        Err(JournalError::Shut) => Err(refused_by(journal)),
         Err(JournalError::TooLong) => Err(UpdateFault::Code(ResponseCode::SERV_FAIL)),
         Err(JournalError::Disk(_)) => Err(UpdateFault::Code(ResponseCode::SERV_FAIL)),
     }
@@ -52,7 +62,7 @@ fn write_and_do<V: Verifier, D: Disk>(
     request: &Request,
 ) -> Result<bool, UpdateFault>
     requires { prescan_refusal zone.old.zone.origin (update_of request.now.message).updates ≡ None }
-    ensures done { DoesDurably (RefusesRequest D.is_usable journal.new request.now)
+    ensures done { DoesDurably (RefusesRequest journal.new.is_open request.now)
         (update_of request.now.message) result zone.old zone.new }
     ensures made { OnOk result (Makes (update_of request.now.message).updates zone.old.zone zone.new.zone) }
     ensures untouched { IfOk result (λ changed. changed ≡ false → zone.new ≡ zone.old) }
@@ -78,10 +88,8 @@ fn make<V: Verifier, D: Disk>(
     alloc: Global,
     request: &Request,
 ) -> Result<bool, UpdateFault>
-    ensures done { MakesDurably (RefusesRequest D.is_usable journal.new request.now)
-        (update_of request.now.message) result zone.old zone.new }
-    ensures due { MakesDurably (PassesChecks zone.old.zone (update_of request.now.message))
-        (update_of request.now.message) result zone.old zone.new }
+    ensures done { MakesDurably (PassesChecks zone.old.zone (update_of request.now.message) ×
+        RefusesRequest journal.new.is_open request.now) (update_of request.now.message) result zone.old zone.new }
     ensures made { OnOk result (Makes (update_of request.now.message).updates zone.old.zone zone.new.zone) }
     ensures untouched { IfOk result (λ changed. changed ≡ false → zone.new ≡ zone.old) }
     ensures accepted { OnOk result (request.now.was_read ≡ true) }
@@ -128,10 +136,8 @@ pub fn update_durably<V: Verifier, D: Disk>(
     request: &Request,
     now: u64,
 ) -> (Result<bool, UpdateFault>, Option<TSigResponseContext>)
-    ensures answers { AnswersDurably (RefusesRequest D.is_usable journal.new request.now) V.Verifier zone.old
-        (request.now, now) result zone.new }
-    ensures due { AnswersDurably (IsAccepted V.Verifier zone.old (request.now, now)) V.Verifier zone.old
-        (request.now, now) result zone.new }
+    ensures answers { AnswersDurably (IsAccepted V.Verifier zone.old (request.now, now) ×
+        RefusesRequest journal.new.is_open request.now) V.Verifier zone.old (request.now, now) result zone.new }
     ensures made { OnOk result.0 (Makes (update_of request.now.message).updates zone.old.zone zone.new.zone) }
     ensures kept { OnErr result.0 (zone.new ≡ zone.old) }
     ensures read { request.now.was_read ≡ true → IsRead request.now }

@@ -5,6 +5,7 @@ pub mod Fitted
 pub mod FormErrors
 pub mod Isolation
 pub mod Ruling
+pub mod Sending
 pub mod ServedBy
 pub mod ServedLaws
 pub mod Serving

@@ -7,6 +7,7 @@ pub mod form_error;
 mod no_keys;
 pub mod rule_laws;
 pub mod rules;
+mod sending;
 pub mod serve;
 pub mod service;
 pub mod writing;

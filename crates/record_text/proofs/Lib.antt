@@ -5,6 +5,7 @@ pub mod Gateways
 pub mod GenericData
 pub mod HexGroups
 pub mod HexSteps
+pub mod Kept
 pub mod NoField
 pub mod NoMoment
 pub mod NoRow

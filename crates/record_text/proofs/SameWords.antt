@@ -307,7 +307,7 @@ same_generic number size other digits others rdata s h is = record {
 }
 
 pub same_spelled : ParametersOfWords → (origin : Option DomainName) (number : ℕ) (words : List Word) (rdata : RData) → SpellsData origin number words rdata → (others : List Word) → AreSameWords words others → SpellsData origin number others rdata
-same_spelled same_parameters origin number words rdata (in_form other is short) others h = in_form (λ begin. other (begins words others h begin)) (same_data same_parameters origin number words _ is others h) short
+same_spelled same_parameters origin number words rdata (in_form other is typed formed short) others h = in_form (λ begin. other (begins words others h begin)) (same_data same_parameters origin number words _ is others h) typed formed short
 same_spelled same_parameters origin number words rdata (generic {mark = mark} {size = size} {digits = digits} plain is written) [] h = absurd h
 same_spelled same_parameters origin number words rdata (generic {mark = mark} {size = size} {digits = digits} plain is written) (o ∷ []) h = absurd h.1
 same_spelled same_parameters origin number words rdata (generic {mark = mark} {size = size} {digits = digits} plain is written) (o ∷ p ∷ others) h =

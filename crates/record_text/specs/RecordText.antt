@@ -14,8 +14,9 @@ use Rattle.hex.specs.Hex.{decode_of}
 use Rattle.wire_names.specs.rr.domain.DomainName.{DomainName, name_len}
 use Rattle.wire_messages.specs.rr.RecordData.{character_string, type_of}
 use Rattle.wire_messages.specs.declared.rr.rdata.RData.{RData}
+use Rattle.wire_messages.specs.declared.rr.rdata.RData.TheVariants as content
 use Rattle.wire_messages.specs.declared.rr.record.Record.{Record}
-use Rattle.wire_messages.specs.serialize.layout.RecordLayout.{RecordAt}
+use Rattle.wire_messages.specs.serialize.layout.RecordLayout.{IsFormed, RecordAt}
 use Rattle.wire_messages.specs.serialize.writing.FullForm.{data_octets, name_octets}
 use Rattle.wire_messages.specs.serialize.writing.RecordSize.{data_len}
 use Rattle.record_text.specs.declared.data.field.Field.{Field}
@@ -291,6 +292,12 @@ pub record IsRow (origin : Option DomainName) (row : TypeRow) (words : List Word
 pub data IsData (origin : Option DomainName) (number : ℕ) : List Word → List ℕ → Type 0 where
   in_form : {row : TypeRow} {words : List Word} {octets : List ℕ} → row_of number ≡ Some row → IsRow origin row words octets → IsData origin number words octets
 
+-- Data of a type that have no form of their own here: its octets, which may be none.
+abbrev pub AreOctetsOf : ℕ → RData → Type 0
+AreOctetsOf number (content.Update0 code) = code ≡ number
+AreOctetsOf number (content.Unknown code octets) = (code ≡ number) × (octets ≢ [])
+AreOctetsOf number rdata = ⊥
+
 -- the record of the root with these data, in bytes: its name, type, class IN, TTL 0, and the data behind their length
 -- (RFC 1035 section 4.1.3)
 abbrev pub root_record : ℕ → List ℕ → List ℕ
@@ -319,10 +326,11 @@ abbrev pub BeginGeneric : List Word → Type 0
 BeginGeneric (mark ∷ size ∷ digits) = (mark.quoted ≡ false) × (mark.bytes.now ≡ 92 ∷ 35 ∷ [])
 BeginGeneric words = ⊥
 
--- The words are data of a type, and these are the data: in the form of the type, or, where they begin so, in the form
--- that is one for all. Data have at most 65,535 octets, as many as their length can tell (RFC 1035 section 3.2.1).
+-- The words are data of a type, and these are the data: in the form of the type, or, if they begin so, in the form that
+-- is one for all. The data are kept in the form of their type, and not as octets that have none, if the type has one.
+-- Data have at most 65,535 octets, as many as their length can say (RFC 1035 section 3.2.1).
 pub data SpellsData (origin : Option DomainName) (number : ℕ) : List Word → RData → Type 0 where
-  in_form : {words : List Word} {rdata : RData} → ¬ (BeginGeneric words) → IsData origin number words (data_octets rdata) → data_len rdata ≤ 65535 → SpellsData origin number words rdata
+  in_form : {words : List Word} {rdata : RData} → ¬ (BeginGeneric words) → IsData origin number words (data_octets rdata) → type_of rdata ≡ number → IsFormed rdata → data_len rdata ≤ 65535 → SpellsData origin number words rdata
   generic : {mark size : Word} {digits : List Word} {rdata : RData} → mark.quoted ≡ false → mark.bytes.now ≡ 92 ∷ 35 ∷ [] → IsGenericData number size digits rdata → SpellsData origin number (mark ∷ size ∷ digits) rdata
 
 -- The words of what is left of a text, to the end, are data of a type, and these are the data.

@@ -20,6 +20,7 @@ mod types;
 ghost use Rattle.std.specs.Prelude.{◌≡◌, ◌≢◌, ◌↔◌, ◌<◌, ◌≤◌, [], ◌∷◌, false, IfErr, IfNone, IfOk, IfSome, IsTrue};
 ghost use Rattle.std.specs.Option.{option_copied};
 ghost use Rattle.wire_messages.specs.rr.RecordData.{type_of};
+ghost use Rattle.wire_messages.specs.serialize.layout.RecordLayout.{IsFormed};
 ghost use Rattle.wire_messages.specs.serialize.writing.FullForm.{data_octets};
 ghost use Rattle.wire_messages.specs.serialize.writing.RecordSize.{data_len};
 ghost use Rattle.text_words.specs.declared.error.TextError.TheVariants.{Memory};
@@ -72,6 +73,7 @@ fn data_within(
     origin: Option<&Name>,
 ) -> Result<RData, TextError>
     ensures form { IfOk result (λ rdata. type_of rdata ≡ record_type) }
+    ensures formed { IfOk result IsFormed }
     ensures fits { IfOk result (λ rdata. data_len rdata ≤ 65535) }
     ensures spelled { IfOk result (λ rdata. IsData (option_copied origin.entry) record_type words.now
         (data_octets rdata)) }

@@ -3,6 +3,7 @@
 ghost use Rattle.std.specs.Prelude.{◌≡◌, ◌≢◌, ◌↔◌, ◌<◌, ◌≤◌, ◌^◌, ◌++◌, length, IsTrue, IfErr, IfOk, OnOk};
 ghost use Rattle.std.specs.Int.{w16, w32, to_be_bytes};
 ghost use Rattle.std.specs.List.{AllByRecursion, flat_map};
+ghost use Rattle.wire_names.specs.serialize.layout.Bytes.{AreBytes};
 ghost use Rattle.wire_messages.specs.rr.RecordData.{IsOption, character_string, option_octets, soa_numbers, type_of};
 ghost use Rattle.wire_messages.specs.serialize.layout.RecordLayout.{IsFormed};
 ghost use Rattle.wire_messages.specs.serialize.writing.FullForm.{data_octets, name_octets, soa_octets, tsig_octets};
@@ -23,6 +24,14 @@ fn put_u32(number: u32, bytes: &mut Vec<u8>) -> Result<(), AllocError>
     ensures { OnOk result (bytes.new.items ≡ bytes.old.items ++ to_be_bytes w32 number) }
 {
     bytes.extend_from_slice(&number.to_be_bytes())
+}
+
+/// How many bytes there are.
+pub fn byte_count(octets: &[u8]) -> usize
+    ensures count { result ≡ length octets.now }
+    ensures bytes { AreBytes octets.now }
+{
+    octets.len()
 }
 
 /// Puts octets behind bytes, and before them their length of 16 bits.

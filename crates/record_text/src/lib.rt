@@ -10,6 +10,6 @@ mod record;
 pub use data::field::{Field, Names, Rest, Row};
 pub use data::table::{row_of, type_of};
 pub use data::{data_of_words, read_data};
-pub use generic::put_data;
+pub use generic::{byte_count, put_data};
 pub use record::{class_of, read_record};
 pub use text_words::{TextError, TextFault, read_name};

@@ -115,12 +115,12 @@ module _ (handler : Ghosts ServedHandler) (by : Verifies TsigVerifier)
     of_request replies after (requests.asks _ _ query) = query.kept
     of_request replies after (requests.updates _ is_update update) = of_update _ update.reply after update.is_reply
 
-    of_served : (rules : Rules) (encoded : List (List ℕ)) (after : ZoneChains ServedHandler) (s : RequestServed rules (server_of handler signature_for catalog) r message.now encoded after) → Are after (by_request s)
-    of_served rules encoded after (by_rules.refused _ _ _ kept) = kept
-    of_served rules encoded after (by_rules.truncated _ _ _ kept) = kept
-    of_served rules encoded after (by_rules.transferred _ _ _ kept) = kept
-    of_served rules encoded after (by_rules.passed _ (by_rules.above _ _ kept) _) = kept
-    of_served rules encoded after (by_rules.passed {replies = replies} _ (by_rules.own _ answered) _) = of_request replies after answered
+    of_served : (rules : Rules) (sent : List (List ℕ)) (after : ZoneChains ServedHandler) (s : RequestServed rules (server_of handler signature_for catalog) r message.now sent after) → Are after (by_request s)
+    of_served rules sent after (by_rules.refused _ _ _ kept) = kept
+    of_served rules sent after (by_rules.truncated _ _ _ kept) = kept
+    of_served rules sent after (by_rules.transferred _ _ _ kept) = kept
+    of_served rules sent after (by_rules.passed _ (by_rules.above _ _ kept) _) = kept
+    of_served rules sent after (by_rules.passed {replies = replies} _ (by_rules.own _ answered) _) = of_request replies after answered
 
   pub updated_so : {S : Type 0} (signature_for : S → Signer) → ZonesAreUpdated handler signature_for by
   updated_so signature_for rules catalog message after are = (λ answer served. of_answer answer served, λ e left. of_error e left) where
@@ -129,7 +129,7 @@ module _ (handler : Ghosts ServedHandler) (by : Verifies TsigVerifier)
     of_answer answer (by_rules.short _ _ _ kept) = kept
     of_answer answer (by_rules.response _ _ _ _ kept) = kept
     of_answer answer (by_rules.unreadable _ _ _ _ _ kept) = kept
-    of_answer answer (by_rules.request {request = r} {encoded = encoded} _ _ _ is served _ _) = of_served signature_for catalog are message r is rules encoded after served
+    of_answer answer (by_rules.request {request = r} {sent = sent} _ _ _ is served _) = of_served signature_for catalog are message r is rules sent after served
 
     of_error : (e : ServeError) (left : LeavesUnserved rules.access (server_of handler signature_for catalog) message e after)
         → AreMade by message catalog.zones after (taken_without_reply rules.access (server_of handler signature_for catalog) message after e left)

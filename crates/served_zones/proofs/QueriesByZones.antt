@@ -1,5 +1,5 @@
 -- What a server replies to a query from its zones.
-use Rattle.std.proofs.Common.{◌≡◌, ◌⊎◌, ◌∙◌, inl, inr, ℕ, false, List, [], ◌∷◌, Option, None, Result, Ok, Err, refl, sym, ap, subst, arith}
+use Rattle.std.proofs.Common.{◌≡◌, ◌⊎◌, ◌∙◌, inl, inr, ℕ, false, List, [], ◌∷◌, Option, None, Result, Ok, Err, sym, ap, subst, arith}
 use Rattle.std.specs.Prelude.{◌==◌, Contains}
 use Rattle.std.proofs.lemmas.Bool.{false≢true, ne_eqb}
 use Rattle.std.proofs.lemmas.List.Elements.{All-contains}
@@ -9,7 +9,6 @@ use Rattle.wire_messages.specs.Numbers.{opcode_query, opcode_update, type_axfr}
 use Rattle.wire_messages.specs.op.EdnsFields.{EdnsFields}
 use Rattle.wire_messages.specs.serialize.writing.Reply.{Reply}
 use Rattle.wire_messages.specs.declared.op.query.Query.{Query}
-use Rattle.wire_messages.specs.declared.protocol.Protocol.{Protocol}
 use Rattle.wire_messages.specs.declared.protocol.Protocol.TheVariants as protocols
 use Rattle.wire_names.specs.declared.error.DecodeError.{DecodeError}
 use Rattle.wire_reading.specs.serialize.reading.MessageReading.{Fault, Reads}
@@ -17,7 +16,6 @@ use Rattle.wire_reading.specs.declared.op.message.Message.{Message}
 use Rattle.hickory_base.specs.requests.Questions.{one_query}
 use Rattle.hickory_base.specs.requests.RequestReading.{message_of}
 use Rattle.hickory_base.specs.requests.Requests.{ReceivedRequest}
-use Rattle.hickory_base.specs.responses.EncodingSinks.{IsEncodingOf}
 use Rattle.hickory_base.specs.zone_store.Lookups.{Flow, SignerContext}
 use Rattle.hickory_base.specs.zone_store.ZoneAnswers.{MemoryZone}
 use Rattle.hickory_base.specs.declared.errors.LookupError.{LookupError}
@@ -36,11 +34,12 @@ use Rattle.hickory_catalog.specs.requests.Server.{Server, server_of}
 use Rattle.hickory_catalog.specs.zones.Zones.{ZoneChains}
 use Rattle.hickory_catalog.specs.declared.catalog.Catalog.{Catalog}
 use Rattle.hickory_server.proofs.lemmas.server.Above.{one_question}
-use Rattle.hickory_server.proofs.lemmas.server.Refusals.{looked_into, one_encoded, one_is}
+use Rattle.hickory_server.proofs.lemmas.server.Refusals.{looked_into, one_is, one_sent}
 use Rattle.hickory_server.proofs.lemmas.zone_handler.MadeReplies.{made}
-use Rattle.hickory_server.specs.server.Ruling.{IsIncremental, IsOfServedClass, IsQuery, IsRefusedUpdate, IsRuling, IsTransfer, MayTransfer, datagram_limit}
+use Rattle.hickory_server.specs.server.Ruling.{IsIncremental, IsOfServedClass, IsQuery, IsRefusedUpdate, IsRuling, IsTransfer, MayTransfer}
 use Rattle.hickory_server.specs.server.Above.{FindsAbove}
-use Rattle.hickory_server.specs.server.ServedBy.{AreSent, AreSentOver, RequestServed, ZonesAnswer}
+use Rattle.hickory_server.specs.server.Sending.{IsSentAs, sending_of}
+use Rattle.hickory_server.specs.server.ServedBy.{RequestServed, ZonesAnswer}
 use Rattle.hickory_server.specs.server.ServedBy as by_rules
 use Rattle.hickory_server.specs.server.ServedLaws as for_laws
 use Rattle.hickory_server.specs.server.Serving.{IsRequestOf}
@@ -98,17 +97,6 @@ not_transferred rules r pass (query, is, class, incremental, may) = (pass.0 quer
 
 -- ---- the zones
 
--- one reply is sent as one message
-one_sent : (protocol : Protocol) (limit : ℕ) (request : MessageRequest) (reply : List ℕ) (sent : List (List ℕ)) → AreSentOver protocol limit request (reply ∷ []) sent → (bytes : List ℕ) × (sent ≡ bytes ∷ [])
-one_sent protocols.Udp limit request reply [] are = absurd are
-one_sent protocols.Udp limit request reply (bytes ∷ []) are = (bytes, refl)
-one_sent protocols.Udp limit request reply (bytes ∷ other ∷ others) are = absurd are.1
-one_sent protocols.Tcp limit request reply sent are = (reply, are)
-one_sent protocols.Tls limit request reply sent are = (reply, are)
-one_sent protocols.Https limit request reply sent are = (reply, are)
-one_sent protocols.Quic limit request reply sent are = (reply, are)
-one_sent protocols.H3 limit request reply sent are = (reply, are)
-
 -- a chain of a zone alone, which says this to a question
 abbrev Says : ReceivedRequest → Query → DomainName × List ServedHandler → Contents → Type 0
 Says r question served contents = (zone : ZoneState TsigVerifier) × (served.1 ≡ Left zone ∷ []) × IsSaidByZone zone.updatable.zone r question contents
@@ -136,8 +124,8 @@ module _ (handler : Ghosts ServedHandler)
       by_reply owners
       (made handler (Left zone) zone.updatable.zone (no_proofs zone) (λ options flow looked. owned zone.updatable.zone zone.updatable.zone.origin 6 flow owners (looks zone options flow looked)) r question contents result stands
       (subst (λ t. HandlerReply handler (Left zone) t (record { request = r; query = question }) result contents) (type zone) reply))
-  said zone r question result contents (inl (failed not is)) in_memory reply =
-      by_failure not (subst (λ (found : Found). HandlerReply handler (Left zone) (handler.zone_type_of (Left zone)) (record { request = r; query = question }) found contents) is reply).0
+  said zone r question result contents (inl (failed sets not is)) in_memory reply =
+      by_failure sets not (subst (λ (found : Found). HandlerReply handler (Left zone) (handler.zone_type_of (Left zone)) (record { request = r; query = question }) found contents) is reply).0
   said zone r question result contents (inr none) in_memory reply = absurd (false≢true (sym in_memory ∙ ap is_out_of_memory none))
 
   module _ {S : Type 0} (signature_for : S → Signer) (same : (bytes : List ℕ) (m n : Message) → Reads bytes m → Reads bytes n → m ≡ n)
@@ -182,16 +170,16 @@ module _ (handler : Ghosts ServedHandler)
           let (state, chain, says) = s.1 in
           (s.0, by_zone (for_laws.above asked) chain says, s.2)
 
-      abbrev OneEncoded : List (List ℕ) → Type 0
-      OneEncoded encoded = (contents : Contents) × IsSaidBy catalog.zones r question contents × (bytes : List ℕ) × (encoded ≡ bytes ∷ []) × IsEncodingOf protocols.Tcp (unsigned_reply r.message edns contents) bytes
+      abbrev OneSent : Rules → List (List ℕ) → Type 0
+      OneSent rules sent = (contents : Contents) × IsSaidBy catalog.zones r question contents × (bytes : List ℕ) × (sent ≡ bytes ∷ []) × IsSentAs (sending_of rules r) (unsigned_reply r.message edns contents) bytes
 
-      by_request : (rules : Rules) → IsRuling rules r Pass → (encoded : List (List ℕ)) (after : ZoneChains ServedHandler) → RequestServed rules server r now encoded after → OneEncoded encoded
-      by_request rules pass encoded after (by_rules.refused ruling _ _ _) = absurd (not_refused rules r pass ruling)
-      by_request rules pass encoded after (by_rules.truncated ruling _ _ _) = absurd (not_truncated rules r pass ruling)
-      by_request rules pass encoded after (by_rules.transferred ruling _ _ _) = absurd (not_transferred rules r pass ruling)
-      by_request rules pass encoded after (by_rules.passed {replies = replies} _ zones encodes) =
+      by_request : (rules : Rules) → IsRuling rules r Pass → (sent : List (List ℕ)) (after : ZoneChains ServedHandler) → RequestServed rules server r now sent after → OneSent rules sent
+      by_request rules pass sent after (by_rules.refused ruling _ _ _) = absurd (not_refused rules r pass ruling)
+      by_request rules pass sent after (by_rules.truncated ruling _ _ _) = absurd (not_truncated rules r pass ruling)
+      by_request rules pass sent after (by_rules.transferred ruling _ _ _) = absurd (not_transferred rules r pass ruling)
+      by_request rules pass sent after (by_rules.passed {replies = replies} _ zones are_sent) =
           let a = from_zones replies after zones in
-          let one = one_encoded protocols.Tcp replies (unsigned_reply r.message edns a.0) encoded a.2 encodes in
+          let one = one_sent (sending_of rules r) replies (unsigned_reply r.message edns a.0) sent a.2 are_sent in
           (a.0, a.1, one.0, one.1, one.2)
 
     pub reply : QueriesAreAnswered handler signature_for
@@ -200,21 +188,17 @@ module _ (handler : Ghosts ServedHandler)
     reply rules catalog message question answer after are plain (by_rules.response _ _ response _ _) = absurd (plain.no_response response)
     reply rules catalog message question answer after are plain (by_rules.unreadable _ _ _ fault _ _) =
         absurd (no_fault message.bytes.items (message_of plain.request.message) fault.fault plain.is_request.reads fault.first)
-    reply rules catalog message question answer after are plain (by_rules.request {request = r} {encoded = encoded} {sent = sent} _ _ _ is served leaves told) =
+    reply rules catalog message question answer after are plain (by_rules.request {request = r} {sent = sent} _ _ _ is served told) =
         let a = by_request catalog are r question (read_so same rules message question plain r is) (ne_eqb question.query_type type_axfr (λ axfr. plain.no_transfer (inl axfr))) message.now
-        rules (passes same rules message question plain r is) encoded after served in
-        let (contents, said_so, bytes, one, encodes) = a in
-        let leaves_so = subst (λ (e : List (List ℕ)). AreSent rules r e sent) one leaves in
-        let alone = one_sent r.protocol (datagram_limit rules r) r.message bytes sent leaves_so in (
+        rules (passes same rules message question plain r is) sent after served in
+        let (contents, said_so, bytes, one, is_sent) = a in (
           r,
           is,
           contents,
           said_so,
           record {
-            encoded = bytes;
-            encodes = encodes;
-            bytes = alone.0;
-            sent = subst (λ (b : List (List ℕ)). AreSent rules r (bytes ∷ []) b) alone.1 leaves_so;
-            answer_is = told ∙ ap (λ (b : List (List ℕ)). let says_so : Answer = Replies b in says_so) alone.1;
+            bytes = bytes;
+            sent = is_sent;
+            answer_is = told ∙ ap (λ (b : List (List ℕ)). let says_so : Answer = Replies b in says_so) one;
           },
         )

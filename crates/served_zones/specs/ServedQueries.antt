@@ -6,12 +6,11 @@ use Rattle.wire_names.specs.rr.domain.NameOrder.{lower_name}
 use Rattle.wire_names.specs.declared.error.ProtoError.{ProtoError}
 use Rattle.wire_messages.specs.Numbers.{code_refused}
 use Rattle.wire_messages.specs.declared.op.query.Query.{Query}
-use Rattle.wire_messages.specs.declared.protocol.Protocol.TheVariants.{Tcp}
 use Rattle.hickory_base.specs.requests.RequestReading.{IsFaultOf}
 use Rattle.hickory_base.specs.requests.Requests.{ReceivedRequest, TimedRequest}
-use Rattle.hickory_base.specs.responses.EncodingSinks.{IsEncodingOf}
 use Rattle.hickory_base.specs.zone_store.Lookups.{SignerContext}
 use Rattle.hickory_base.specs.zone_store.ZoneAnswers.{MemoryZone}
+use Rattle.hickory_base.specs.zone_store.ZoneSets.{IsZone}
 use Rattle.hickory_base.specs.declared.zone_store.handler.ZoneHandler.{Ghosts}
 use Rattle.hickory_catalog.specs.queries.Queries.{whole_contents}
 use Rattle.hickory_catalog.specs.replies.Replies.{Contents, error_contents, unsigned_reply}
@@ -23,7 +22,8 @@ use Rattle.hickory_catalog.specs.zones.Zones.{ChangesAt, ZoneChains}
 use Rattle.hickory_catalog.specs.declared.catalog.Catalog.{Catalog}
 use Rattle.hickory_server.specs.server.Above.{FindsAbove}
 use Rattle.hickory_server.specs.server.Ruling.{IsOfServedClass, IsQuery, IsResponse, IsTransfer, MayUse}
-use Rattle.hickory_server.specs.server.ServedBy.{AreSent, ServedBy}
+use Rattle.hickory_server.specs.server.Sending.{IsSentAs, sending_of}
+use Rattle.hickory_server.specs.server.ServedBy.{ServedBy}
 use Rattle.hickory_server.specs.server.ServedLaws.{IsFor}
 use Rattle.hickory_server.specs.server.Serving.{IsRequestOf, LeavesUnserved}
 use Rattle.hickory_server.specs.declared.server.answer.Answer.{Answer}
@@ -32,7 +32,7 @@ use Rattle.hickory_server.specs.declared.server.rules.Rules.{Rules}
 use Rattle.hickory_server.specs.declared.server.serve.Incoming.{Incoming}
 use Rattle.hickory_server.specs.declared.server.serve.ServeError.{ServeError}
 use Rattle.hickory_server.specs.zone_handler.ZoneReplies.{SaysTheReply}
-use Rattle.hickory_zone.specs.Zones.{AreOwners}
+use Rattle.zone_answers.specs.Zones.{AreOwners}
 use Rattle.hickory_store.specs.declared.updates.verifier.Verifier.{Ghosts as Verifies}
 use Rattle.served_zones.specs.ServedZones.{Chain, ServedHandler}
 use Rattle.served_zones.specs.TakenUpdates.{Taken, taken_in, taken_without_reply}
@@ -68,7 +68,7 @@ PlainQueriesAreRead = (rules : Rules) (message : Incoming) (question : Query) (e
 -- says that the server failed.
 pub data IsSaidByZone (zone : MemoryZone) (request : ReceivedRequest) (question : Query) (contents : Contents) : Type 0 where
   by_reply : AreOwners zone.origin zone.sets → SaysTheReply zone request question contents → IsSaidByZone zone request question contents
-  by_failure : ¬ (AreOwners zone.origin zone.sets) → contents ≡ whole_contents request.message.metadata failure → IsSaidByZone zone request question contents
+  by_failure : IsZone zone.sets → ¬ (AreOwners zone.origin zone.sets) → contents ≡ whole_contents request.message.metadata failure → IsSaidByZone zone request question contents
 
 -- What the reply to a question says: REFUSED, if no zone answers for the name (RFC 1035 section 4.1.1); or what the
 -- zone says that the request is for: the nearest to the name (RFC 1034 section 4.3.2, step 2), or for the DS records of
@@ -78,13 +78,11 @@ pub data IsSaidBy (zones : ZoneChains ServedHandler) (request : ReceivedRequest)
   by_zone : {apex : DomainName} {chain : Chain} {zone : ZoneState TsigVerifier} → IsFor zones request (apex, chain)
       → chain ≡ Left zone ∷ [] → IsSaidByZone zone.updatable.zone request question contents → IsSaidBy zones request question contents
 
--- One message leaves. It is the encoding of a reply that says this, with the question and, if the request has EDNS, with
--- an OPT record. Over UDP it is what fits the limits of client and server.
+-- One message leaves: what is sent of a reply that says this, with the question and, if the request has EDNS, with an OPT
+-- record. Over UDP it is within the limits of client and server.
 pub record IsSentAlone (rules : Rules) (identifier : Option (List ℕ)) (request : ReceivedRequest) (contents : Contents) (answer : Answer) : Type 0 where
-  pub encoded : List ℕ
-  pub encodes : IsEncodingOf Tcp (unsigned_reply request.message (reply_edns identifier request.message.edns) contents) encoded
   pub bytes : List ℕ
-  pub sent : AreSent rules request (encoded ∷ []) (bytes ∷ [])
+  pub sent : IsSentAs (sending_of rules request) (unsigned_reply request.message (reply_edns identifier request.message.edns) contents) bytes
   pub answer_is : answer ≡ Replies (bytes ∷ [])
 
 -- A server answers such a query by its zones.

@@ -10,6 +10,7 @@ use Rattle.wire_names.specs.rr.domain.NameOrder.{lower_name}
 use Rattle.hickory_base.specs.declared.zone_store.handler.AxfrPolicy.TheVariants.{AllowAll}
 use Rattle.hickory_base.specs.declared.zone_store.handler.ZoneType.TheVariants.{Primary}
 use Rattle.hickory_base.specs.zone_store.ZoneAnswers.{MemoryZone}
+use Rattle.hickory_base.specs.zone_store.ZoneSets.{IsZone}
 use Rattle.hickory_catalog.specs.zones.Zones.{ChangesAt}
 use Rattle.hickory_store.specs.blocklist.BlockAnswers.{Blocklist}
 use Rattle.hickory_store.specs.declared.blocklist.config.BlocklistConsultAction.TheVariants.{Enforce}
@@ -17,7 +18,7 @@ use Rattle.name_lists.specs.Adding.{AddsList}
 use Rattle.name_lists.specs.Counts.{Counts}
 use Rattle.hickory_store.specs.file.RecordZones.{IsZoneOf as IsMadeOf}
 use Rattle.hickory_server.specs.store.ZoneOfText.{IsTextFault}
-use Rattle.hickory_zone.specs.Zones.{AreOwners}
+use Rattle.zone_answers.specs.Zones.{AreOwners}
 use Rattle.tsig.specs.declared.verifier.TsigVerifier.{TsigVerifier}
 use Rattle.wire_messages.specs.declared.rr.rdata.RData.{RData}
 use Rattle.wire_messages.specs.declared.rr.record.Record.{Record}
@@ -28,9 +29,9 @@ use Rattle.served_zones.specs.declared.zone_files.ZoneFault.{ZoneFault}
 use Rattle.served_zones.specs.declared.zone_files.ZoneFault.TheVariants.{Zone}
 
 -- The zone of these records as it is served: of this apex, primary, and transferred to everybody (RFC 5936 section 5).
--- Each owner name is the apex or below it.
+-- Each owner name is the apex or below it, and each set is as a zone holds it.
 abbrev pub IsServedOf : DomainName → List (Record RData) → MemoryZone → Type 0
-IsServedOf apex records zone = IsMadeOf apex Primary AllowAll records zone × AreOwners zone.origin zone.sets
+IsServedOf apex records zone = IsMadeOf apex Primary AllowAll records zone × AreOwners zone.origin zone.sets × IsZone zone.sets
 
 -- It is served of the records that the text of a zone file has (RFC 1035 section 5.1).
 abbrev pub IsZoneOfFile : List ℕ → DomainName → MemoryZone → Type 0

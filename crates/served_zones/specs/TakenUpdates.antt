@@ -42,13 +42,13 @@ module _ {H : Type 0} {server : Server H} {request : ReceivedRequest} {now : ℕ
   by_zones (by_rules.own _ answered) = by_answer answered
   by_zones other = None
 
-  abbrev pub by_request : {rules : Rules} {encoded : List (List ℕ)} {zones : List (DomainName × List H)} → RequestServed rules server request now encoded zones → Taken
+  abbrev pub by_request : {rules : Rules} {sent : List (List ℕ)} {zones : List (DomainName × List H)} → RequestServed rules server request now sent zones → Taken
   by_request (by_rules.passed _ answer _) = by_zones answer
   by_request other = None
 
 -- the update that was taken in a message
 abbrev pub taken_in : {H : Type 0} {rules : Rules} {server : Server H} {message : Incoming} {answer : Answer} {zones : List (DomainName × List H)} → ServedBy rules server message answer zones → Taken
-taken_in (by_rules.request _ _ _ _ served _ _) = by_request served
+taken_in (by_rules.request _ _ _ _ served _) = by_request served
 taken_in other = None
 
 -- and in one for which memory was refused

@@ -8,8 +8,8 @@ use Rattle.hickory_base.specs.declared.zone_store.lookup.AuthLookup.{AuthLookup}
 use Rattle.hickory_catalog.specs.queries.Queries.{HandlerReply}
 use Rattle.hickory_catalog.specs.replies.Replies.{Contents}
 use Rattle.hickory_server.specs.zone_handler.ZoneReplies.{SaysTheReply}
-use Rattle.hickory_zone.specs.Handled.{StandsFor}
-use Rattle.hickory_zone.specs.Zones.{AreOwners}
+use Rattle.zone_replies.specs.Handled.{StandsFor}
+use Rattle.zone_answers.specs.Zones.{AreOwners}
 use Rattle.tsig.specs.declared.verifier.TsigVerifier.{TsigVerifier}
 use Rattle.zones.specs.ZoneStates.{ZoneState}
 

@@ -57,7 +57,7 @@ pub enum JournalFault {
     #[error("the disk failed")]
     Disk,
     /// One of its entries is not an update of the zone.
-    #[error("an entry is no update of this zone")]
+    #[error("an entry is not an update of this zone")]
     Damaged,
     /// The zone does not read back as it is, so it cannot be kept.
     #[error("a snapshot does not read back as the zone")]

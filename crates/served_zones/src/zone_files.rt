@@ -83,7 +83,11 @@ fn served<D: Disk + Drop>(
         ZoneType::Primary,
         AxfrPolicy::AllowAll,
     ) {
-        Ok(zone) => loaded_zone(alloc, zone),
+        Ok(zone) => {
+            // What its sets are is known of a zone whose sets were read.
+            let _ = zone.records();
+            loaded_zone(alloc, zone)
+        }
         Err(RecordsError::Memory) => return Err(ZoneFault::Memory),
         Err(fault) => return Err(ZoneFault::Zone(ZoneError::Records(fault))),
     };

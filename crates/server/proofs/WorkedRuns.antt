@@ -1,19 +1,28 @@
 -- From what the calls of a server say to the steps of a run.
-use Rattle.std.proofs.Common.{◌≡◌, ℕ, List, Result, Ok, Err, IfErr, IfOk, OnOk, subst}
+use Rattle.std.proofs.Common.{◌≡◌, ◌∙◌, ◌++◌, ◌∷◌, [], ℕ, List, Option, Some, None, Result, Ok, Err, IfErr, IfOk, OnOk, ap, refl, subst, sym, take}
+use Rattle.std.specs.List.{AllZip}
+use Rattle.std.specs.declared.net.SocketAddr.{SocketAddr}
+use Rattle.wire_messages.specs.declared.protocol.Protocol.{Protocol}
+use Rattle.wire_messages.specs.declared.protocol.Protocol.TheVariants.{Tcp}
 use Rattle.hickory_base.specs.declared.zone_store.handler.ZoneHandler.{Ghosts}
 use Rattle.hickory_catalog.specs.replies.Signing.{Signer}
 use Rattle.hickory_catalog.specs.zones.Zones.{ZoneChains}
-use Rattle.hickory_server.specs.server.ServedBy.{arrival}
+use Rattle.hickory_server.specs.server.ServedBy.{Arrival, arrival}
 use Rattle.hickory_server.specs.declared.server.answer.Answer.{Answer}
 use Rattle.hickory_server.specs.declared.server.answer.Answer.TheVariants as answers
 use Rattle.hickory_server.specs.declared.server.serve.Incoming.{Incoming}
 use Rattle.hickory_server.specs.declared.server.serve.ServeError.{ServeError}
 use Rattle.hickory_server.specs.declared.server.serve.ServeError.TheVariants as errors
 use Rattle.served_zones.specs.ServedZones.{ServedHandler}
+use Rattle.server_reports.specs.declared.log.QueryLog.{QueryLog}
+use Rattle.signed_server.specs.KeyedServers.{over}
 use Rattle.signed_server.specs.ServedWithKeys.{LeavesWithKeys, ServedWithKeys}
 use Rattle.signed_server.specs.declared.placeholders.LeftToServer.{LeftToServer}
-use Rattle.server.specs.Run.{Answers, keyed}
-use Rattle.server.specs.Serving.{IsRefused}
+use Rattle.server.specs.Run.{Answers, AreKept, CameInTurn, Event, IsAsBefore, IsOfStream, Run, StreamGoesOn, arrived, first_came, goes_on, keyed, none_came}
+use Rattle.server.specs.Run.Event.{message_came}
+use Rattle.server.specs.Serving.{EndsStream, Exchange, IsAnsweredStream, IsRefused, StreamBytes, next, none, standing_of, waiting_in}
+use Rattle.server.specs.Settings.{with_zones, zones_of}
+use Rattle.server.specs.declared.answering.StreamAnswer.{StreamAnswer}
 use Rattle.server.specs.declared.answering.Refusal.{Refusal}
 use Rattle.server.specs.declared.answering.Refusal.TheVariants.{Denied, Memory, MemoryAfterHandling, Response, Unreadable}
 use Rattle.server.specs.declared.service.Service.{Service}
@@ -40,3 +49,89 @@ module _ (handler : Ghosts ServedHandler) (signature_for : LeftToServer → Sign
   answered_so P says (Err Unreadable) ok err = (Ok answers.Unreadable, served answers.Unreadable err)
   answered_so P says (Err Memory) ok err = (Err errors.Memory, left errors.Memory err)
   answered_so P says (Err MemoryAfterHandling) ok err = (Err errors.MemoryAfterHandling, left errors.MemoryAfterHandling err)
+
+-- ---- the messages of a stream
+
+abbrev Zones : Type 0
+Zones = ZoneChains ServedHandler
+
+module _ (handler : Ghosts ServedHandler) (signature_for : LeftToServer → Signer) (source : SocketAddr) (now : ℕ) (old : Service) where
+  came_so : (message : Incoming) (bytes : List ℕ) → IsOfStream source now message bytes → arrival bytes source Tcp now ≡ arrived message
+  came_so message bytes is = sym (
+      ap (λ (b : List ℕ). arrival b message.src message.protocol message.now) is.bytes_are
+      ∙ ap (λ (from : SocketAddr). arrival bytes from message.protocol message.now) is.source_is
+      ∙ ap (λ (over_it : Protocol). arrival bytes source over_it message.now) is.protocol_is
+      ∙ ap (λ (moment : ℕ). arrival bytes source Tcp moment) is.now_is)
+
+  as_before : (zones after : Zones) → IsAsBefore (with_zones old zones) (with_zones old after)
+  as_before zones after = record { stays = record { keys = refl; transfer_keys = refl; rules = refl; others = refl }; others = refl }
+
+  -- a message that is served, or refused, of a stream
+  served_of : (message : Incoming) (bytes : List ℕ) → IsOfStream source now message bytes → (zones after : Zones) (answer : Answer)
+      → ServedWithKeys (over (keyed handler signature_for old) zones) (arrival bytes source Tcp now) answer after → Answers handler signature_for (with_zones old zones) message (Ok answer) after
+  served_of message bytes is zones after answer s = subst (λ (came : Arrival). ServedWithKeys (over (keyed handler signature_for old) zones) came answer after) (came_so message bytes is) s
+
+  left_of : (message : Incoming) (bytes : List ℕ) → IsOfStream source now message bytes → (zones after : Zones) (e : ServeError)
+      → LeavesWithKeys (over (keyed handler signature_for old) zones) (arrival bytes source Tcp now) e after → Answers handler signature_for (with_zones old zones) message (Err e) after
+  left_of message bytes is zones after e s = subst (λ (came : Arrival). LeavesWithKeys (over (keyed handler signature_for old) zones) came e after) (came_so message bytes is) s
+
+  refused_of : (message : Incoming) (bytes : List ℕ) → IsOfStream source now message bytes → (zones after : Zones) (refusal : Refusal)
+      → IsRefused (over (keyed handler signature_for old) zones) (arrival bytes source Tcp now) refusal after → (outcome : Result Answer ServeError) × Answers handler signature_for (with_zones old zones) message outcome after
+  refused_of message bytes is zones after Denied s = (Ok answers.Denied, served_of message bytes is zones after answers.Denied s)
+  refused_of message bytes is zones after Response s = (Ok answers.Response, served_of message bytes is zones after answers.Response s)
+  refused_of message bytes is zones after Unreadable s = (Ok answers.Unreadable, served_of message bytes is zones after answers.Unreadable s)
+  refused_of message bytes is zones after Memory s = (Err errors.Memory, left_of message bytes is zones after errors.Memory s)
+  refused_of message bytes is zones after MemoryAfterHandling s = (Err errors.MemoryAfterHandling, left_of message bytes is zones after errors.MemoryAfterHandling s)
+
+  -- the run after these messages
+  abbrev Goes : List Event → List Incoming → Zones → Type 0
+  Goes events messages zones = (after : List Event) × CameInTurn events messages after × Run handler signature_for after (with_zones old zones)
+
+  one_more : (events : List Event) (messages : List Incoming) (message : Incoming) (outcome : Result Answer ServeError) (zones : Zones) → Goes (message_came message outcome ∷ events) messages zones → Goes events (message ∷ messages) zones
+  one_more events messages message outcome zones (after, came, run) = (after, first_came came, run)
+
+  abbrev these : List ℕ → StreamBytes
+  these bytes = record { bytes = bytes; source = source; now = now }
+
+  refused_last : (bytes : List ℕ) (between zones : Zones) (refusal : Refusal) → IsRefused (over (keyed handler signature_for old) between) (arrival bytes source Tcp now) refusal zones
+      → (events : List Event) (messages : List Incoming) → Run handler signature_for events (with_zones old between) → AllZip (IsOfStream source now) messages (bytes ∷ []) → Goes events messages zones
+  refused_last bytes between zones refusal is events [] run are = absurd are
+  refused_last bytes between zones refusal is events (message ∷ []) run are =
+      let refused_so = refused_of message bytes are.0 between zones refusal is in
+      (message_came message refused_so.0 ∷ events, first_came none_came, goes_on run (refused_so.1, as_before between zones))
+  refused_last bytes between zones refusal is events (message ∷ other ∷ others) run are = absurd are.1
+
+  at_end : (bytes : List ℕ) (between zones : Zones) (refusal : Option Refusal) (refused waiting : List (List ℕ))
+      → EndsStream (over (keyed handler signature_for old) between) (these bytes) refusal refused waiting zones → (events : List Event) (messages : List Incoming) → Run handler signature_for events (with_zones old between)
+      → AllZip (IsOfStream source now) messages refused → Goes events messages zones
+  at_end bytes between zones None refused waiting (nobody, same) events [] run are =
+      (events, none_came, subst (λ (zs : Zones). Run handler signature_for events (with_zones old zs)) (sym same) run)
+  at_end bytes between zones None refused waiting (nobody, same) events (message ∷ messages) run are =
+      absurd (subst (λ (frames : List (List ℕ)). AllZip (IsOfStream source now) (message ∷ messages) frames) nobody are)
+  at_end bytes between zones (Some refusal) refused waiting (message, one, nothing_waits, is) events messages run are =
+      refused_last message between zones refusal is events messages run (subst (λ (frames : List (List ℕ)). AllZip (IsOfStream source now) messages frames) one are)
+
+  exchanged : (bytes : List ℕ) (first between zones : Zones) (log middle : QueryLog) (frames replies refused waiting : List (List ℕ)) (refusal : Option Refusal)
+      → Exchange (keyed handler signature_for old) source now first log frames replies between middle
+      → EndsStream (over (keyed handler signature_for old) between) (these bytes) refusal refused waiting zones → (events : List Event) (messages : List Incoming) → Run handler signature_for events (with_zones old first)
+      → AllZip (IsOfStream source now) messages (frames ++ refused) → Goes events messages zones
+  exchanged bytes first between zones log middle frames replies refused waiting refusal none ends events messages run are =
+      at_end bytes first zones refusal refused waiting ends events messages run are
+  exchanged bytes first between zones log middle frames replies refused waiting refusal (next {between = then} {middle = last} {message = one} {messages = others} {sent = sent} {others = more} served logged rest is) ends events [] run are =
+      absurd are
+  exchanged bytes first between zones log middle frames replies refused waiting refusal (next {between = then} {middle = last} {message = one} {messages = others} {sent = sent} {others = more} served logged rest is) ends events (message ∷ messages) run are =
+      one_more events messages message (Ok (answers.Replies sent)) zones
+      (exchanged bytes then between zones last middle others more refused waiting refusal rest ends (message_came message (Ok (answers.Replies sent)) ∷ events) messages
+      (goes_on run (served_of message one are.0 first then (answers.Replies sent) served, as_before first then)) are.1)
+
+  pub stream_goes_on : (bytes : List ℕ) (answer : StreamAnswer) (out : List ℕ) (new : Service)
+      → IsAnsweredStream (keyed handler signature_for old) old.answering.log (record { bytes = bytes; source = source; now = now }) answer out (standing_of new.answering)
+      → ((zones : Zones) → zones ≡ zones_of new → AreKept (with_zones old zones) new) → StreamGoesOn handler signature_for source now (take answer.consumed bytes) old new
+  stream_goes_on bytes answer out new answered kept = (
+    answered.messages ++ answered.refused,
+    answered.are_messages,
+    λ events messages run are.
+        let g = exchanged bytes (zones_of old) answered.between (zones_of new) old.answering.log new.answering.log answered.messages answered.replies
+        answered.refused (waiting_in new.answering) answer.refusal answered.exchange answered.last events messages run are in
+        (g.0, g.1, goes_on g.2 (kept (zones_of new) refl)),
+  )

@@ -1,11 +1,14 @@
--- One law from the bytes of zone files and messages to the bytes that leave. It is of servers that block no names, and
--- whose zones have no journals.
-use Rattle.std.specs.Prelude.{◌≡◌, ◌++◌, ◌∷◌, [], ℕ, Bool, List, None, Some, Result, Ok, Err, cond, option_map}
+-- One law from the bytes of zone files, journals and messages to the bytes that leave. It is of servers that block no
+-- names.
+use Rattle.std.specs.Prelude.{◌≡◌, ◌++◌, ◌∷◌, [], ℕ, Bool, List, None, Option, Some, Result, Ok, Err, cond, false, option_map, slice_get, true}
 use Rattle.std.proofs.Common.{inl, inr, refl}
+use Rattle.std.specs.List.{AllZip}
+use Rattle.std.specs.declared.net.SocketAddr.{SocketAddr}
 use Rattle.wire_names.specs.rr.domain.DomainName.{DomainName}
 use Rattle.wire_names.specs.rr.domain.NameOrder.{lower_name, name_eq}
 use Rattle.wire_messages.specs.Numbers.{code_refused}
 use Rattle.wire_messages.specs.declared.op.query.Query.{Query}
+use Rattle.wire_messages.specs.declared.protocol.Protocol.TheVariants.{Tcp}
 use Rattle.hickory_base.specs.requests.Requests.{ReceivedRequest, TimedRequest}
 use Rattle.hickory_base.specs.zone_store.Lookups.{SignerContext}
 use Rattle.hickory_base.specs.zone_store.ZoneAnswers.{MemoryZone}
@@ -22,8 +25,10 @@ use Rattle.hickory_server.specs.zone_handler.ZoneReplies.{SaysTheReply}
 use Rattle.hickory_server.specs.declared.server.answer.Answer.{Answer}
 use Rattle.hickory_server.specs.declared.server.serve.Incoming.{Incoming}
 use Rattle.hickory_server.specs.declared.server.serve.ServeError.{ServeError}
+use Rattle.served_keys.specs.ServedKeys.{AreKeysOfFile}
 use Rattle.served_zones.specs.Given.{updated}
-use Rattle.served_zones.specs.Grants.{IsGrantOf}
+use Rattle.served_zones.specs.Grants.{IsGrantOf, rules_for}
+use Rattle.served_zones.specs.Holding.{AllBegin, AllSettle}
 use Rattle.served_zones.specs.ServedQueries.{IsPlainQuery, IsSaidByZone, IsSentAlone}
 use Rattle.served_zones.specs.TakenUpdates.{Taken, taken_in, taken_without_reply}
 use Rattle.served_zones.specs.ServedZones.{IsLoadedAs, IsZoneOfFile, ServedHandler, loaded}
@@ -40,10 +45,16 @@ use Rattle.tsig.specs.declared.keys.Key.{Key}
 use Rattle.tsig.specs.declared.verifier.TsigVerifier.{TsigVerifier}
 use Rattle.update_policy.specs.declared.policy.Rule.{Rule}
 use Rattle.hickory_store.specs.declared.updates.verifier.Verifier.{Ghosts as Verifies}
+use Rattle.zones.specs.Journals.{IsOpened}
+use Rattle.zones.specs.Owners.{IsOfItsBytes}
 use Rattle.zones.specs.ZoneStates.{ZoneState}
 use Rattle.zones.specs.ZoneUpdates.{Updates}
+use Rattle.journal.specs.host_file.FileState.{of_bytes}
+use Rattle.server.specs.Frames.{AreFrames}
+use Rattle.server.specs.Journals.{host_disks}
+use Rattle.server.specs.Journals as journals
 use Rattle.server.specs.Serving.{Stays}
-use Rattle.server.specs.Settings.{IsUnset, rules_of, with_zones, zones_of}
+use Rattle.server.specs.Settings.{IsUnset, rules_of, with_keys, with_zones, zones_of}
 use Rattle.server.specs.Updates.{AreServed}
 use Rattle.server.specs.declared.service.Service.{Service}
 
@@ -54,7 +65,16 @@ pub data Event : Type 0 where
   -- a rule of the updates of a zone, by the texts of both; and that the zones get their rules
   rule_added : (zone rule : List ℕ) → Event
   rules_given : Event
-  -- any other setting, of keys, networks, limits or the identifier; but not a list of blocked names
+  -- the keys of a file's bytes
+  keys_set : (file : List ℕ) → Event
+  -- a journal is opened: the text of its zone's name, and the bytes of its two files
+  journal_opened : (name first second : List ℕ) → Event
+  -- from now on zones hold updates until the end of a batch; and that end
+  batch_begun : Event
+  batch_ended : Event
+  -- the zone of the journal of this number takes no updates from now on
+  updates_stopped : (journal : ℕ) → Event
+  -- what changes no zone, key, rule or list of blocked names: any other setting, or that replies which wait are taken
   other_set : Event
   message_came : (message : Incoming) (outcome : Result Answer ServeError) → Event
 
@@ -71,15 +91,48 @@ arrived message = arrival message.bytes.items message.src message.protocol messa
 abbrev pub itself : (message : Incoming) → IsMessageOf message.bytes.items message.src message.protocol message.now message
 itself message = record { bytes_are = refl; source_is = refl; protocol_is = refl; now_is = refl }
 
--- these updates of a zone, and the one that was taken, if it is of that zone, in any letter case
-abbrev pub with_taken : Taken → DomainName → List TimedRequest → List TimedRequest
-with_taken None apex updates = updates
-with_taken (Some made) apex updates = cond (name_eq made.0 apex) (made.1 ∷ updates) updates
+-- what a loaded zone gets: the keys and the rules of its updates; the journal of these two files, from now on; an update
+-- that it answers `Ok`; or that it takes no updates any more
+pub data Change : Type 0 where
+  rules_got : (keys : List Key) (rules : List Rule) → Change
+  journal_read : (first second : List ℕ) → Change
+  update_taken : (request : TimedRequest) → Change
+  stopped : Change
 
--- The zones, their rules and the list of blocked names are as before.
+-- the updates among changes
+abbrev pub updates_in : List Change → List TimedRequest
+updates_in [] = []
+updates_in (rules_got keys rules ∷ changes) = updates_in changes
+updates_in (journal_read first second ∷ changes) = updates_in changes
+updates_in (update_taken request ∷ changes) = request ∷ updates_in changes
+updates_in (stopped ∷ changes) = updates_in changes
+
+-- whether a journal is among them
+abbrev pub has_journal : List Change → Bool
+has_journal [] = false
+has_journal (journal_read first second ∷ changes) = true
+has_journal (other ∷ changes) = has_journal changes
+
+-- these changes of a zone, and before them the keys and rules that it gets, if there are rules for it
+abbrev pub with_rules_for : List Key → List Rule → List Change → List Change
+with_rules_for keys [] changes = changes
+with_rules_for keys (rule ∷ others) changes = rules_got keys (rule ∷ others) ∷ changes
+
+-- these changes of a zone, and before them the update that was taken, if it is of that zone, in any letter case
+abbrev pub with_taken : Taken → DomainName → List Change → List Change
+with_taken None apex changes = changes
+with_taken (Some made) apex changes = cond (name_eq made.0 apex) (update_taken made.1 ∷ changes) changes
+
+-- these changes of a zone, and before them that the zone of this name, if there is one, was stopped
+abbrev pub with_stop : Option DomainName → DomainName → List Change → List Change
+with_stop None apex changes = changes
+with_stop (Some name) apex changes = cond (name_eq name apex) (stopped ∷ changes) changes
+
+-- The zones, the keys and rules of their updates, and the list of blocked names are as before.
 pub record AreKept (old new : Service) : Type 0 where
   pub zones : zones_of new ≡ zones_of old
   pub apexes : new.apexes ≡ old.apexes
+  pub keys : new.answering.server.keys ≡ old.answering.server.keys
   pub grants : new.grants ≡ old.grants
   pub list : new.list ≡ old.list
 
@@ -89,14 +142,19 @@ pub record IsAsBefore (old new : Service) : Type 0 where
   pub stays : Stays old.answering.server new.answering.server
   pub others : new ≡ record old { answering = new.answering; counters = new.counters; limits = new.limits }
 
--- The zone of a file's bytes after updates, the last one first: each was answered `Ok` (RFC 2136), by the keys and rules
--- that the zone had.
-pub data IsZoneAfter (by : Verifies TsigVerifier) (file : List ℕ) (apex : DomainName) : List TimedRequest → ZoneState TsigVerifier → Type 0 where
+-- The zone of a file's bytes after these changes, the last one first. Each update is of the bytes that it was read
+-- from, and was answered `Ok` (RFC 2136) by the keys and rules that the zone had got before it. A journal makes the zone
+-- of what it was before. Whether updates wait to be written to a journal changes nothing else.
+pub data IsZoneAfter (by : Verifies TsigVerifier) (file : List ℕ) (apex : DomainName) : List Change → ZoneState TsigVerifier → Type 0 where
   loads : {zone : MemoryZone} → IsZoneOfFile file apex zone → IsZoneAfter by file apex [] (loaded zone)
-  gets_rules : {requests : List TimedRequest} {zone : ZoneState TsigVerifier} {keys : List Key} {rules : List Rule} → IsZoneAfter by file apex requests zone
-      → IsZoneAfter by file apex requests (updated keys rules zone)
-  takes_update : {requests : List TimedRequest} {request : TimedRequest} {old new : ZoneState TsigVerifier} {changed : Bool} {context : SignerContext} → IsZoneAfter by file apex requests old
-      → Updates by old request (Ok changed) context new → IsZoneAfter by file apex (request ∷ requests) new
+  gets_rules : {changes : List Change} {zone : ZoneState TsigVerifier} {keys : List Key} {rules : List Rule} → IsZoneAfter by file apex changes zone
+      → IsZoneAfter by file apex (rules_got keys rules ∷ changes) (updated keys rules zone)
+  takes_update : {changes : List Change} {request : TimedRequest} {old new : ZoneState TsigVerifier} {changed : Bool} {context : SignerContext} → IsZoneAfter by file apex changes old
+      → IsOfItsBytes request.0 → Updates by old request (Ok changed) context new → IsZoneAfter by file apex (update_taken request ∷ changes) new
+  opens_journal : {changes : List Change} {first second : List ℕ} {old new : ZoneState TsigVerifier} → IsZoneAfter by file apex changes old
+      → IsOpened host_disks (of_bytes 0 first) (of_bytes 1 second) old new → IsZoneAfter by file apex (journal_read first second ∷ changes) new
+  waits : {changes : List Change} {zone : ZoneState TsigVerifier} {holds : Bool} → IsZoneAfter by file apex changes zone → IsZoneAfter by file apex changes (record zone { holds = holds })
+  stops : {changes : List Change} {zone : ZoneState TsigVerifier} → IsZoneAfter by file apex changes zone → IsZoneAfter by file apex (stopped ∷ changes) (record zone { policy = [] })
 
 module _ (handler : Ghosts ServedHandler) (signature_for : LeftToServer → Signer) where
   abbrev pub keyed : Service → KeyedServer ServedHandler
@@ -130,7 +188,13 @@ module _ (handler : Ghosts ServedHandler) (signature_for : LeftToServer → Sign
       × (new.apexes.items ≡ old.apexes.items ++ apex ∷ []) × (new ≡ with_zones (record old { apexes = new.apexes }) (zones_of new))
   Happens (rule_added zone rule) old new = ((grant : Grant) × IsGrantOf old.answering.server.keys zone rule grant × (new.grants.items ≡ old.grants.items ++ grant ∷ []))
       × (new ≡ record old { grants = new.grants })
+  Happens (keys_set file) old new = AreKeysOfFile file new.answering.server.keys × (new ≡ with_keys old new.answering.server.keys)
   Happens rules_given old new = AreServed old.answering.server.keys old.grants.items old.apexes.items (zones_of old) (zones_of new) × (new ≡ with_zones old (zones_of new))
+  Happens (journal_opened name first second) old new = journals.IsOpened name first second (zones_of old) (zones_of new) old.journals.items new.journals.items
+      × (new ≡ with_zones (record old { journals = new.journals }) (zones_of new))
+  Happens batch_begun old new = AllBegin old.journals.items (zones_of old) (zones_of new) × (new ≡ with_zones old (zones_of new))
+  Happens batch_ended old new = AllSettle old.journals.items (zones_of old) (zones_of new) × (new ≡ with_zones old (zones_of new))
+  Happens (updates_stopped journal) old new = journals.StopsAny (slice_get old.journals.items journal) (zones_of old) (zones_of new) × (new ≡ with_zones old (zones_of new))
   Happens other_set old new = AreKept old new
   Happens (message_came came outcome) old new = Answers old came outcome (zones_of new) × IsAsBefore old new
 
@@ -139,42 +203,68 @@ module _ (handler : Ghosts ServedHandler) (signature_for : LeftToServer → Sign
     starts : {service : Service} → IsUnset service → Run [] service
     goes_on : {events : List Event} {event : Event} {old after : Service} → Run events old → Happens event old after → Run (event ∷ events) after
 
-  -- the updates that the zone of this apex took since it was added, the last one first
-  abbrev pub updates_of : {events : List Event} {service : Service} → Run events service → DomainName → List TimedRequest
-  updates_of (starts unset) apex = []
-  updates_of (goes_on {event = zone_added name file added} run happens) apex = cond (name_eq added apex) [] (updates_of run apex)
-  updates_of (goes_on {event = rule_added zone rule} run happens) apex = updates_of run apex
-  updates_of (goes_on {event = rules_given} run happens) apex = updates_of run apex
-  updates_of (goes_on {event = other_set} run happens) apex = updates_of run apex
-  updates_of (goes_on {event = message_came message outcome} {old = old} {after = after} run happens) apex =
-      with_taken (taken old message outcome (zones_of after) happens.0) apex (updates_of run apex)
+  -- what the zone of this apex got since it was added, the last one first
+  abbrev pub changes_of : {events : List Event} {service : Service} → Run events service → DomainName → List Change
+  changes_of (starts unset) apex = []
+  changes_of (goes_on {event = zone_added name file added} run happens) apex = cond (name_eq added apex) [] (changes_of run apex)
+  changes_of (goes_on {event = rule_added zone rule} run happens) apex = changes_of run apex
+  changes_of (goes_on {event = keys_set file} run happens) apex = changes_of run apex
+  changes_of (goes_on {event = rules_given} {old = old} run happens) apex =
+      with_rules_for old.answering.server.keys (rules_for old.grants.items apex) (changes_of run apex)
+  changes_of (goes_on {event = journal_opened name first second} run happens) apex =
+      cond (name_eq happens.0.apex apex) (journal_read first second ∷ changes_of run apex) (changes_of run apex)
+  changes_of (goes_on {event = batch_begun} run happens) apex = changes_of run apex
+  changes_of (goes_on {event = batch_ended} run happens) apex = changes_of run apex
+  changes_of (goes_on {event = updates_stopped journal} {old = old} run happens) apex = with_stop (slice_get old.journals.items journal) apex (changes_of run apex)
+  changes_of (goes_on {event = other_set} run happens) apex = changes_of run apex
+  changes_of (goes_on {event = message_came message outcome} {old = old} {after = after} run happens) apex =
+      with_taken (taken old message outcome (zones_of after) happens.0) apex (changes_of run apex)
+
+-- A message has these bytes, and came over a stream from there at this moment.
+abbrev pub IsOfStream : SocketAddr → ℕ → Incoming → List ℕ → Type 0
+IsOfStream source now message bytes = IsMessageOf bytes source Tcp now message
+
+-- After these events messages came, one after the other; these are all events then.
+pub data CameInTurn : List Event → List Incoming → List Event → Type 0 where
+  none_came : {events : List Event} → CameInTurn events [] events
+  first_came : {old new : List Event} {message : Incoming} {messages : List Incoming} {outcome : Result Answer ServeError}
+      → CameInTurn (message_came message outcome ∷ old) messages new → CameInTurn old (message ∷ messages) new
+
+-- The messages of a stream, each after its length (RFC 1035 section 4.2.2), go on with any run, as messages that came one
+-- after the other.
+abbrev pub StreamGoesOn : Ghosts ServedHandler → (LeftToServer → Signer) → SocketAddr → ℕ → List ℕ → Service → Service → Type 0
+StreamGoesOn handler signature_for source now bytes old new =
+    (frames : List (List ℕ)) × AreFrames bytes frames × ((events : List Event) (messages : List Incoming) → Run handler signature_for events old
+    → AllZip (IsOfStream source now) messages frames → (after : List Event) × CameInTurn events messages after × Run handler signature_for (other_set ∷ after) new)
 
 -- However the message is judged by these keys, it has no signature. Without keys none is judged.
 abbrev pub IsUnsigned : List Key → Incoming → Type 0
 IsUnsigned keys message = (judgement : Judgement) → Judged keys message.bytes.items message.now judgement → judgement ≡ Unsigned
 
 -- What the reply to a question says: REFUSED, if no file is of a zone for the name (RFC 1035 section 4.1.1); or what the
--- zone of a file says, as the updates that it took left it (RFC 1034 section 4.3.2). The file is the one whose apex is
+-- zone of a file replies, as the updates that it took left it (RFC 1034 section 4.3.2); if it has a journal, whose bytes
+-- may bring an owner name outside of the zone, it may be that the server failed. The file is the one whose apex is
 -- nearest to the name, or for the DS records of an apex the nearest above it (RFC 4035 section 3.1.4.1).
-pub data IsSaidOf (by : Verifies TsigVerifier) (files : List (DomainName × List ℕ)) (updates : DomainName → List TimedRequest) (request : ReceivedRequest) (question : Query) (contents : Contents) : Type 0 where
+pub data IsSaidOf (by : Verifies TsigVerifier) (files : List (DomainName × List ℕ)) (changes : DomainName → List Change) (request : ReceivedRequest) (question : Query) (contents : Contents) : Type 0 where
   of_no_file : FindsAbove files request.message None → Finds files (lower_name question.name) None → contents ≡ error_contents request.message.metadata code_refused
-      → IsSaidOf by files updates request question contents
-  of_file : {apex : DomainName} {file : List ℕ} {zone : ZoneState TsigVerifier} → IsFor files request (apex, file) → IsZoneAfter by file apex (updates apex) zone
-      → IsSaidByZone zone.updatable.zone request question contents → IsSaidOf by files updates request question contents
+      → IsSaidOf by files changes request question contents
+  of_file : {apex : DomainName} {file : List ℕ} {zone : ZoneState TsigVerifier} → IsFor files request (apex, file) → IsZoneAfter by file apex (changes apex) zone
+      → SaysTheReply zone.updatable.zone request question contents → IsSaidOf by files changes request question contents
+  of_journal : {apex : DomainName} {file : List ℕ} {zone : ZoneState TsigVerifier} → IsFor files request (apex, file) → IsZoneAfter by file apex (changes apex) zone
+      → has_journal (changes apex) ≡ true → IsSaidByZone zone.updatable.zone request question contents → IsSaidOf by files changes request question contents
 
 -- Whatever settings a server took and whatever messages it answered: an unsigned query that may use it has one reply,
--- which encodes what the zone of the nearest file says, after the updates that this zone answered `Ok`.
+-- which encodes what the zone of the nearest file replies, after the updates that this zone answered `Ok`.
 abbrev pub RepliesAreOfTheFiles : Ghosts ServedHandler → (LeftToServer → Signer) → Verifies TsigVerifier → Type 0
 RepliesAreOfTheFiles handler signature_for by =
     (events : List Event) (service : Service) (message : Incoming) (question : Query) (answer : Answer) (zones : ZoneChains ServedHandler)
     (run : Run handler signature_for events service) → IsPlainQuery (rules_of service) message question → IsUnsigned service.answering.server.keys message
     → Answers handler signature_for service message (Ok answer) zones
     → (request : ReceivedRequest) × IsRequestOf message request × (contents : Contents)
-    × IsSaidOf by (files_of events) (updates_of handler signature_for run) request question contents
+    × IsSaidOf by (files_of events) (changes_of handler signature_for run) request question contents
     × IsSentAlone (rules_of service) service.answering.server.server.catalog.nsid request contents answer
 
--- A zone that took no update says what the zone that its file's bytes make replies to the question.
-abbrev pub FilesReply : Verifies TsigVerifier → Type 0
-FilesReply by = (file : List ℕ) (apex : DomainName) (zone : ZoneState TsigVerifier) (request : ReceivedRequest) (question : Query) (contents : Contents)
-    → IsZoneAfter by file apex [] zone → IsSaidByZone zone.updatable.zone request question contents
-    → IsZoneOfFile file apex zone.updatable.zone × SaysTheReply zone.updatable.zone request question contents
+-- A zone that took no update and has no journal is the one that its file's bytes make.
+abbrev pub UnchangedAreOfFiles : Verifies TsigVerifier → Type 0
+UnchangedAreOfFiles by = (file : List ℕ) (apex : DomainName) (changes : List Change) (zone : ZoneState TsigVerifier)
+    → updates_in changes ≡ [] → has_journal changes ≡ false → IsZoneAfter by file apex changes zone → IsZoneOfFile file apex zone.updatable.zone

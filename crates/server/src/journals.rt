@@ -1,8 +1,8 @@
 //! Journals of zones, in files of the caller's: it hands over what they hold once, and does to them what is noted.
 
-ghost use Rattle.std.specs.Prelude.{◌≡◌, IfOk, OnErr, OnOk, option_copied, option_map, true};
+ghost use Rattle.std.specs.Prelude.{◌≡◌, ℕ, IfOk, IsSome, OnErr, OnOk, option_copied, option_map, true};
 ghost use Rattle.std.specs.List.{slice_get};
-ghost use Rattle.journal.specs.host_file.Calls.{call_of, calls_of};
+ghost use Rattle.journal.specs.host_file.Calls.{HostCall, call_of, calls_of};
 ghost use Rattle.server.specs.Journals.{IsOpened, IsOwedTo, StaysUnopened, StopsAny, bytes_of, operation_of, owed_to, owed_to_second};
 ghost use Rattle.served_zones.specs.Holding.{AllBegin, AllSettle};
 
@@ -172,15 +172,30 @@ impl Service {
         }
     }
 
-    /// Compacts a journal if it is to be compacted, and returns how it is then. No zone changes. It must be called only
-    /// when nothing is owed to the files of the journal.
-    pub fn compact(&mut self, alloc: Global, journal: usize) -> JournalState
-        ensures { self.new ≡ self.old }
+    /// Compacts a journal if it is to be compacted, and returns how it is then. `None` while operations are owed to its
+    /// files: then nothing is done. No zone changes.
+    pub fn compact(
+        &mut self,
+        alloc: Global,
+        journal: usize,
+    ) -> Result<Option<JournalState>, AllocError>
+        ensures kept { self.new ≡ self.old }
+        ensures owed { result ≡ Ok None → (file : ℕ) × (call : HostCall) ×
+            IsOwedTo (zones_of self.old) (slice_get self.old.journals.items journal) file 0 (Some call) }
+        ensures idle { IfOk result (λ state. IsSome state →
+            IsOwedTo (zones_of self.old) (slice_get self.old.journals.items journal) 0 0 None ×
+            IsOwedTo (zones_of self.old) (slice_get self.old.journals.items journal) 1 0 None) }
     {
+        if self.operation(journal, 0, 0)?.is_some() {
+            return Ok(None);
+        }
+        if self.operation(journal, 1, 0)?.is_some() {
+            return Ok(None);
+        }
         let Some(apex) = self.journals.get(journal) else {
-            return JournalState::Open;
+            return Ok(Some(JournalState::Open));
         };
         let zones = &mut self.answering.server.server.catalog;
-        compact_due(alloc, zones, apex)
+        Ok(Some(compact_due(alloc, zones, apex)))
     }
 }

@@ -1,19 +1,20 @@
 //! Worked examples of runs: what the calls of a server make is one.
 
-ghost use Rattle.std.specs.Prelude.{◌∷◌, [], IfOk, List, OnOk, Result};
+ghost use Rattle.std.specs.Prelude.{◌≡◌, ◌∷◌, [], IfOk, List, OnOk, Result, take, true};
 ghost use Rattle.hickory_server.specs.declared.server.answer.Answer.{Answer};
 ghost use Rattle.hickory_server.specs.declared.server.serve.ServeError.{ServeError};
-ghost use Rattle.server.specs.Run.{Event, Run};
-ghost use Rattle.server.specs.Run.Event.{message_came, other_set, rule_added, rules_given, zone_added};
+ghost use Rattle.server.specs.Run.{Event, Run, StreamGoesOn};
+ghost use Rattle.server.specs.Run.Event.{batch_begun, batch_ended, journal_opened, keys_set, message_came, other_set, rule_added, rules_given, updates_stopped, zone_added};
 ghost use Rattle.wire_names.specs.rr.domain.DomainName.{DomainName};
 
-use crate::answering::Refusal;
+use crate::answering::{Refusal, StreamAnswer};
 use crate::service::{Handler, Service};
 use crate::settings::SettingFault;
 use hickory_server::server::serve::Incoming;
 use hickory_server::zone_handler::{ReplySigner, ZoneHandler};
 use signed_server::LeftToServer;
 use std::alloc::Global;
+use std::net::SocketAddr;
 
 /// A server that takes a zone, its keys and a rule of updates, and whose zones get their rules.
 pub fn worked_zones(
@@ -25,7 +26,7 @@ pub fn worked_zones(
 ) -> Result<Service, SettingFault>
     ensures { IfOk result (λ service. (apex : DomainName) ×
         Run ⟦<Handler as ZoneHandler>⟧ ⟦<LeftToServer as ReplySigner>⟧.signature_for
-        (rules_given ∷ rule_added name.now rule.now ∷ other_set ∷ zone_added name.now file.now apex ∷ []) service) }
+        (rules_given ∷ rule_added name.now rule.now ∷ keys_set keys.now ∷ zone_added name.now file.now apex ∷ []) service) }
 {
     let mut service = Service::new(alloc)?;
     service.add_zone(alloc, name, file)?;
@@ -67,4 +68,42 @@ pub fn worked_message(
         message.now,
         out,
     )
+}
+
+/// A server that answers the messages of a stream's bytes: each is a message that came.
+pub fn worked_stream(
+    alloc: Global,
+    service: &mut Service,
+    bytes: &[u8],
+    source: SocketAddr,
+    now: u64,
+    out: &mut [u8],
+) -> StreamAnswer
+    ensures { StreamGoesOn ⟦<Handler as ZoneHandler>⟧ ⟦<LeftToServer as ReplySigner>⟧.signature_for source now
+        (take result.consumed bytes.now) service.old service.new }
+{
+    let answering = &mut service.answering;
+    answering.answer_stream(alloc, bytes, source, now, out)
+}
+
+/// A server that opens the journal of a zone, has a batch without messages, and lets the zone of its first journal take
+/// no updates any more. Returns whether the batch ended.
+pub fn worked_journal(
+    alloc: Global,
+    service: &mut Service,
+    name: &[u8],
+    first: &[u8],
+    second: &[u8],
+) -> Result<bool, SettingFault>
+    ensures { IfOk result (λ ended. ended ≡ true → (events : List Event) →
+        Run ⟦<Handler as ZoneHandler>⟧ ⟦<LeftToServer as ReplySigner>⟧.signature_for events service.old →
+        Run ⟦<Handler as ZoneHandler>⟧ ⟦<LeftToServer as ReplySigner>⟧.signature_for
+        (updates_stopped 0 ∷ batch_ended ∷ batch_begun ∷ journal_opened name.now first.now second.now ∷ events)
+        service.new) }
+{
+    service.open_journal(alloc, name, first, second)?;
+    service.begin_batch(alloc);
+    let ended = service.end_batch(alloc);
+    service.stop_updates(alloc, 0);
+    Ok(ended)
 }

@@ -6,14 +6,12 @@ use Rattle.std.specs.declared.net.SocketAddr.{SocketAddr}
 use Rattle.wire_names.specs.rr.domain.DomainName.{DomainName}
 use Rattle.wire_names.specs.rr.domain.NameOrder.{name_eq}
 use Rattle.wire_names.specs.declared.error.ProtoError.{ProtoError}
-use Rattle.wire_reading.specs.serialize.layout.WholeMessage.{MessageAt}
-use Rattle.wire_reading.specs.serialize.reading.MessageReading.{Reads}
 use Rattle.server_limits.specs.Access.{IsAllowed, Network}
-use Rattle.hickory_base.specs.requests.RequestReading.{IsFaultOf, IsQuestionSection, message_of}
+use Rattle.hickory_base.specs.requests.RequestReading.{IsFaultOf}
 use Rattle.hickory_base.specs.requests.Requests.{ReceivedRequest}
 use Rattle.hickory_server.specs.server.FormErrors.{IsFormError}
 use Rattle.hickory_server.specs.server.Ruling.{IsResponse}
-use Rattle.hickory_server.specs.server.ServedBy.{Arrival, BytesServed, LeavesBytes}
+use Rattle.hickory_server.specs.server.ServedBy.{Arrival, BytesServed, IsReadFrom, LeavesBytes}
 use Rattle.hickory_server.specs.declared.server.answer.Answer.{Answer}
 use Rattle.hickory_server.specs.declared.server.answer.Answer.TheVariants.{Replies}
 use Rattle.hickory_server.specs.declared.server.rules.Rules.{Rules}
@@ -50,14 +48,9 @@ pub record IsForJudging (keys : List Key) (rules : Rules) (bytes : List ℕ) (so
   pub request : IsRequestWithKeys keys rules bytes source
   pub counts : ¬ (CountsNoRecord bytes)
 
--- The request that begins the bytes of a message, as it stands there (RFC 1035 section 4.1) and as it is read.
-pub record IsRequestOf (came : Arrival) (request : ReceivedRequest) : Type 0 where
-  pub stands : MessageAt came.bytes (message_of request.message)
-  pub reads : Reads came.bytes (message_of request.message)
-  pub questions : IsQuestionSection came.bytes request.message.queries
-  pub raw : request.bytes ≡ came.bytes
-  pub source_is : request.source ≡ came.source
-  pub protocol_is : request.protocol ≡ came.protocol
+-- The request that begins the bytes of a message.
+abbrev pub IsRequestOf : Arrival → ReceivedRequest → Type 0
+IsRequestOf came request = IsReadFrom came.bytes came.source came.protocol request
 
 -- which way a message goes that was judged so: one without a signature is served as it is; one with a good signature is
 -- served, and its replies are signed; any other is refused

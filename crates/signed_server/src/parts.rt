@@ -40,10 +40,10 @@ fn fits_uncut(message: &Octets, limit: u16) -> bool
 
 /// The bytes of a message of these answers, with the header, the questions and the OPT record of another message, as
 /// far as there is room.
-fn with_answers(
+fn with_answers<'x>(
     alloc: Global,
-    message: &MessageRequest,
-    answers: &[Record],
+    message: &'x MessageRequest,
+    answers: &'x [Record],
     limit: u16,
 ) -> Result<Octets, AllocError>
     ensures { IfOk result (IsEncoding limit message.now answers.now) }
@@ -57,7 +57,9 @@ fn with_answers(
         edns,
         answers,
         authorities: &[],
+        soa: &[],
         additionals: &[],
+        signature: None,
     };
     encoded(alloc, &contents, limit)
 }

@@ -4,7 +4,7 @@ ghost use Rattle.std.specs.Prelude.{◌≡◌, ◌≢◌, ◌↔◌, [], IfErr, 
 ghost use Rattle.std.specs.List.{list_any};
 ghost use Rattle.wire_names.specs.rr.domain.NameOrder.{name_eq};
 ghost use Rattle.hickory_catalog.specs.requests.Server.{server_of};
-ghost use Rattle.hickory_server.specs.server.ServedBy.{BytesServed, LeavesBytes, arrival};
+ghost use Rattle.hickory_server.specs.server.ServedBy.{BytesServed, IsToBeServed, LeavesBytes, arrival, arrival_of};
 ghost use Rattle.hickory_server.specs.declared.server.answer.Answer.{Answer as Outcome};
 ghost use Rattle.hickory_server.specs.declared.server.rules.Rules.{Rules as Ruled};
 ghost use Rattle.tsig.specs.Judging.{Judged};
@@ -14,7 +14,6 @@ ghost use Rattle.signed_server.specs.SignedAnswers.{IsSentSigned};
 
 use crate::answers::{refused, sent};
 use hickory_base::access::AccessControl;
-use hickory_base::server::Request;
 use hickory_base::zone_store::ZoneHandler;
 use hickory_catalog::catalog::Catalog;
 use hickory_catalog::signer::ReplySigner;
@@ -24,7 +23,7 @@ use hickory_server::server::{Answer, Rules, Server};
 use hickory_wire::{Items, Name, Octets, ProtoError, Protocol};
 use std::alloc::{AllocError, Global};
 use std::mem;
-use std::net::{IpAddr, Ipv4Addr, SocketAddr};
+use std::net::SocketAddr;
 use tsig::{Judgement, Keys, Verdict, judge};
 
 /// How many bytes the header of a message has (RFC 1035 section 4.1.1).
@@ -107,88 +106,78 @@ fn is_by_one_of(names: &[Name], judgement: &Judgement) -> bool
     }
 }
 
-/// Serves a message, by rules that let it have transfers from anywhere where that is said.
+/// Serves the request that was read last, by rules that let it have transfers from anywhere where that is said.
 fn serve_opened<S: ReplySigner, H: ZoneHandler>(
     alloc: Global,
     is_open: bool,
     server: &mut Server<S, H>,
-    bytes: &[u8],
-    src: SocketAddr,
-    protocol: Protocol,
     now: u64,
-) -> Result<Answer, ServeError>
+) -> Result<Items<Octets>, ServeError>
+    requires { IsToBeServed server.old.rules.access server.old.request }
     ensures rules { server.new.rules ≡ server.old.rules }
+    ensures request { server.new.request ≡ server.old.request }
     ensures others { server.new.catalog ≡ record server.old.catalog { zones = server.new.catalog.zones } }
-    ensures ok { IfOk result (λ answer. (theirs : Ruled) × AreRulesFor is_open server.old.rules theirs ×
+    ensures ok { IfOk result (λ replies. (theirs : Ruled) × AreRulesFor is_open server.old.rules theirs ×
         BytesServed theirs (server_of H.ZoneHandler S.signature_for server.old.catalog)
-        (arrival bytes.now src protocol now) answer server.new.catalog.zones) }
+        (arrival_of server.old.request now) (Answer.Replies replies) server.new.catalog.zones) }
     ensures err { IfErr result (λ e.
         LeavesBytes server.old.rules (server_of H.ZoneHandler S.signature_for server.old.catalog)
-        (arrival bytes.now src protocol now) e server.new.catalog.zones) }
+        (arrival_of server.old.request now) e server.new.catalog.zones) }
 {
     if !is_open {
-        return server.serve(alloc, bytes, src, protocol, now);
+        return server.serve_request(alloc, now, Items::new(alloc));
     }
     let closed = mem::replace(&mut server.rules.transfers, AccessControl::new(alloc));
-    let answer = server.serve(alloc, bytes, src, protocol, now);
+    let served = server.serve_request(alloc, now, Items::new(alloc));
     server.rules.transfers = closed;
-    answer
+    served
 }
 
-/// Serves a message whose signature is good, and signs its replies.
+/// Serves the request that was read last, whose signature is good, and signs its replies.
 fn serve_good<S: ReplySigner, H: ZoneHandler>(
     alloc: Global,
     keys: &Keys,
     judgement: &Judgement,
-    request: &Request,
     names: &[Name],
     server: &mut Server<S, H>,
-    bytes: &[u8],
-    src: SocketAddr,
-    protocol: Protocol,
     now: u64,
 ) -> Result<Answer, ServeError>
+    requires { IsToBeServed server.old.rules.access server.old.request }
     ensures rules { server.new.rules ≡ server.old.rules }
     ensures others { server.new.catalog ≡ record server.old.catalog { zones = server.new.catalog.zones } }
     ensures ok { IfOk result (λ answer. (theirs : Ruled) × (served : Outcome) ×
         AreRulesFor (is_by_one_of names.now judgement.now) server.old.rules theirs ×
         BytesServed theirs (server_of H.ZoneHandler S.signature_for server.old.catalog)
-        (arrival bytes.now src protocol now) served server.new.catalog.zones ×
-        IsSentSigned keys.now server.old.rules (record { request = request.now; judgement = judgement.now; now = now })
-        served answer) }
+        (arrival_of server.old.request now) served server.new.catalog.zones ×
+        IsSentSigned keys.now server.old.rules
+        (record { request = server.old.request; judgement = judgement.now; now = now }) served answer) }
     ensures err { IfErr result (λ e. LeavesWithKeys (record {
       keys = keys.now;
       transfer_keys = names.now;
       rules = server.old.rules;
       server = server_of H.ZoneHandler S.signature_for server.old.catalog;
-    }) (arrival bytes.now src protocol now) e server.new.catalog.zones) }
+    }) (arrival_of server.old.request now) e server.new.catalog.zones) }
 {
     let is_open = is_by_one_of(names, judgement);
-    let replies = match serve_opened(alloc, is_open, server, bytes, src, protocol, now) {
-        Ok(Answer::Replies(replies)) => replies,
-        Ok(other) => return Ok(other),
-        Err(e) => return Err(e),
-    };
-    match sent(alloc, keys, judgement, &server.rules, request, now, replies) {
+    let replies = serve_opened(alloc, is_open, server, now)?;
+    match sent(
+        alloc,
+        keys,
+        judgement,
+        &server.rules,
+        server.request(),
+        now,
+        replies,
+    ) {
         Ok(leaving) => Ok(Answer::Replies(leaving)),
         Err(_) => Err(ServeError::MemoryAfterHandling),
     }
 }
 
-/// A request without a question, in whose place others are read.
-fn empty_request(alloc: Global) -> Result<Request, AllocError> {
-    let bytes = vec![in alloc; 0; HEADER_LEN]?;
-    let source = SocketAddr::new(IpAddr::V4(Ipv4Addr::LOCALHOST), 53);
-    match Request::from_bytes(alloc, bytes, source, Protocol::Udp) {
-        Ok(request) => Ok(request),
-        Err(_) => Err(AllocError),
-    }
-}
-
-/// A server with keys: the server, the keys that it judges signatures by, and the signed request that it read last, in
-/// whose place it reads the next.
+/// A server with keys: the server, and the keys that it judges signatures by.
 ///
-/// The handlers of zones that take updates are to judge by a [`TsigVerifier`](tsig::TsigVerifier) of the same keys.
+/// The handlers of zones that take updates are to judge by a [`TsigVerifier`](tsig::TsigVerifier) of a copy of the keys,
+/// so that a request is hashed once.
 /// Whatever signer the catalog has, the signatures that it gives are taken off, and replies are signed anew;
 /// [`LeftToServer`](crate::LeftToServer) computes none.
 #[derive(Drop)]
@@ -199,7 +188,6 @@ pub struct SignedServer<S: ReplySigner, H: ZoneHandler> {
     pub keys: Keys,
     /// The names of keys whose good signature lets a request have transfers from anywhere, letter case aside.
     pub transfer_keys: Vec<Name>,
-    request: Request,
 }
 
 impl<S: ReplySigner, H: ZoneHandler> SignedServer<S, H> {
@@ -217,7 +205,6 @@ impl<S: ReplySigner, H: ZoneHandler> SignedServer<S, H> {
             server,
             keys,
             transfer_keys: Vec::new(alloc),
-            request: empty_request(alloc)?,
         })
     }
 
@@ -245,25 +232,22 @@ impl<S: ReplySigner, H: ZoneHandler> SignedServer<S, H> {
         ensures err { IfErr result (λ e. LeavesWithKeys (keyed_of H.ZoneHandler S.signature_for self.old)
             (arrival bytes.now src protocol now) e self.new.server.catalog.zones) }
     {
-        match self.request.read_in_place(alloc, bytes, src, protocol) {
+        match self.server.read(alloc, bytes, src, protocol) {
             Ok(()) => {}
             Err(ProtoError::Memory) => return Err(ServeError::Memory),
             Err(_) => return form_error(alloc, bytes),
         }
-        let (keys, request) = (&self.keys, &self.request);
-        let names = self.transfer_keys.as_slice();
+        let (keys, server) = (&self.keys, &mut self.server);
         match course_of(judgement) {
             Course::Refuse => {
-                match refused(alloc, keys, judgement, &self.server.rules, request, now) {
+                match refused(alloc, keys, judgement, &server.rules, server.request(), now) {
                     Ok(leaving) => Ok(Answer::Replies(leaving)),
                     Err(_) => Err(ServeError::Memory),
                 }
             }
             _ => {
-                let server = &mut self.server;
-                serve_good(
-                    alloc, keys, judgement, request, names, server, bytes, src, protocol, now,
-                )
+                let names = self.transfer_keys.as_slice();
+                serve_good(alloc, keys, judgement, names, server, now)
             }
         }
     }
@@ -287,9 +271,8 @@ impl<S: ReplySigner, H: ZoneHandler> SignedServer<S, H> {
     /// without a TSIG record, if the TSIG record has no form. It is a header that says FORMERR if the message cannot be
     /// read, as with a record after the TSIG record, or a TSIG record in another section (section 5.1).
     ///
-    /// Where there are keys, an unsigned message that counts a record, as an OPT record, is read once more than by
-    /// [`Server::serve`]. Here each byte of a signed one, and of each reply to it, is hashed once; handlers that take
-    /// updates judge by themselves, and hash the message again.
+    /// Where there are keys, a message that counts a record, as an OPT record, is read once more than by
+    /// [`Server::serve`]. Each byte of a signed one, and of each reply to it, is hashed once.
     ///
     /// # Errors
     ///

@@ -2,7 +2,7 @@ mod Addresses
 mod Behind
 mod Names
 mod PrintedFields
-mod Reading
+pub mod Reading
 mod Simple
 mod Spelled
 mod Standing

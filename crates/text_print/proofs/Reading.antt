@@ -29,6 +29,7 @@ use Rattle.record_text.specs.RecordText.IsData.{in_form as of_row}
 use Rattle.record_text.specs.RecordText.SpellsData.{in_form as spells_form, generic as spells_generic}
 use Rattle.record_text.specs.TypeTable.{TypeRow, row_of}
 use Rattle.record_text.proofs.DataLen.{FullSizes, full_len}
+use Rattle.record_text.proofs.Formed.{formed_at}
 use Rattle.record_text.proofs.NoRow.{fields_len}
 use Rattle.text_print.specs.Printed.{ArePrinted, IsPlain, IsPrinted, IsSound, Printed, line_of}
 use Rattle.text_print.specs.Printed.Printed.{plain, quoted}
@@ -173,7 +174,7 @@ digits_are (some_digits sound is) (w ∷ v ∷ words) h = absurd h.1
 spells : (origin : Option DomainName) (number : ℕ) (printed : List Printed) (octets : List ℕ) (words : List Word) (rdata : RData) → ArePrintedData number printed octets → ArePrinted printed words → data_octets rdata ≡ octets → type_of rdata ≡ number
     → data_len rdata ≤ 65535 → length octets < 2 ^ 16 → AreReadOf number octets rdata → SpellsData origin number words rdata
 spells origin number printed octets words rdata (in_form {row = row} found is) h full typed short small read =
-    spells_form (λ begin. unmarked printed words (row_good row printed octets is) h begin) (subst (λ (o : List ℕ). Rattle.record_text.specs.RecordText.IsData origin number words o) (sym full) (of_row found (row_is origin row printed octets words is h))) short
+    spells_form (λ begin. unmarked printed words (row_good row printed octets is) h begin) (subst (λ (o : List ℕ). Rattle.record_text.specs.RecordText.IsData origin number words o) (sym full) (of_row found (row_is origin row printed octets words is h))) typed (subst IsFormed (sym read.3) (formed_at read.2)) short
 spells origin number printed octets [] rdata (generic are) h full typed short small read = absurd h
 spells origin number printed octets (m ∷ []) rdata (generic are) h full typed short small read = absurd h.1
 spells origin number printed octets (m ∷ s ∷ ds) rdata (generic are) h full typed short small read =
@@ -194,13 +195,13 @@ same_row : (a b : TypeRow) (r : Option TypeRow) → r ≡ Some a → r ≡ Some 
 same_row a b r e f = cc
 
 spells_only : (origin : Option DomainName) (number : ℕ) (printed : List Printed) (octets : List ℕ) (words : List Word) (other : RData) → ArePrintedData number printed octets → ArePrinted printed words → SpellsData origin number words other → data_octets other ≡ octets
-spells_only origin number printed octets words other (in_form {row = row} found is) h (spells_form begins (of_row {row = row'} found' that) short) =
+spells_only origin number printed octets words other (in_form {row = row} found is) h (spells_form begins (of_row {row = row'} found' that) same formed short) =
     row_only origin row printed octets (data_octets other) words is h (subst (λ (r : TypeRow). IsRow origin r words (data_octets other)) (same_row row row' (row_of number) found found') that)
 spells_only origin number printed octets words other (in_form {row = row} found is) h (spells_generic {mark = mark} {size = size} {digits = digits} flat mark_is that) =
     absurd (unmarked printed (mark ∷ size ∷ digits) (row_good row printed octets is) h (flat, mark_is))
-spells_only origin number printed octets [] other (generic are) h (spells_form begins that short) = absurd h
-spells_only origin number printed octets (m ∷ []) other (generic are) h (spells_form begins that short) = absurd h.1
-spells_only origin number printed octets (m ∷ s ∷ ds) other (generic are) h (spells_form begins that short) = absurd (begins (h.0.0, h.0.1))
+spells_only origin number printed octets [] other (generic are) h (spells_form begins that same formed short) = absurd h
+spells_only origin number printed octets (m ∷ []) other (generic are) h (spells_form begins that same formed short) = absurd h.1
+spells_only origin number printed octets (m ∷ s ∷ ds) other (generic are) h (spells_form begins that same formed short) = absurd (begins (h.0.0, h.0.1))
 spells_only origin number printed octets words other (generic are) h (spells_generic {digits = digits} flat mark_is that) =
     that.in_full ∙ decode_of-same (bytes_of digits) that.octets octets that.spelled (digits_are are digits h.1.1).1
 
@@ -224,7 +225,7 @@ short_strings : (strings : List (List ℕ)) → AllByRecursion (λ (text : List 
 short_strings [] h = refl
 short_strings (s ∷ strings) h = let small : nat_lt 255 (length s) ≡ false = grind (arith, nat_tests) in rw (small, short_strings strings h.1) refl
 
-writable : (content : RData) → IsFormed content → data_len content ≤ 65535 → unwritable_reason content ≡ None
+pub writable : (content : RData) → IsFormed content → data_len content ≤ 65535 → unwritable_reason content ≡ None
 writable (rdata.A address) h short = no_fault (data_len (rdata.A address)) short
 writable (rdata.AAAA address) h short = no_fault (data_len (rdata.AAAA address)) short
 writable (rdata.NS name) h short = no_fault (data_len (rdata.NS name)) short

@@ -3,7 +3,6 @@
 ghost use Rattle.std.specs.Prelude.{◌≡◌, [], ◌++◌, ◌<◌, ◌^◌, length, string_bytes, IfErr, IfOk, IfSome, IsTrue, IsFalse, OnOk};
 ghost use Rattle.std.specs.List.{AllByRecursion};
 ghost use Rattle.wire_names.specs.rr.domain.DomainName.{AreLabels};
-ghost use Rattle.wire_names.specs.serialize.layout.Bytes.{AreBytes};
 ghost use Rattle.wire_messages.specs.rr.RecordData.{IsOption};
 ghost use Rattle.wire_messages.specs.serialize.layout.NameLayout.{IsFullyQualified};
 ghost use Rattle.wire_messages.specs.serialize.layout.RecordLayout.{IsFormed};
@@ -22,7 +21,7 @@ use crate::generic::put_generic;
 use crate::rest::put_rest;
 use hickory_wire::record_laws::{full_forms, reading_back};
 use hickory_wire::{EdnsOption, MX, Name, Octets, RData, RecordType, SOA, TSIG};
-use record_text::{put_data, row_of};
+use record_text::{byte_count, put_data, row_of};
 use std::alloc::{AllocError, Global};
 use wire_messages::serialize::writing::full_form::full_name_len;
 
@@ -128,17 +127,9 @@ fn has_own_form(code: u16) -> bool
     matches!(code, 1 | 2 | 5 | 6 | 10 | 12 | 15 | 16 | 28 | 41 | 250)
 }
 
-/// How many bytes there are.
-fn byte_count(octets: &[u8]) -> usize
-    ensures count { result ≡ length octets.now }
-    ensures bytes { AreBytes octets.now }
-{
-    octets.len()
-}
-
 /// Whether data are such as a record is read with: names are fully qualified, fields hold their numbers and lengths,
 /// and bytes alone are data only of types that have no other form.
-fn is_formed(rdata: &RData) -> bool
+pub fn is_formed(rdata: &RData) -> bool
     ensures formed { IsTrue result → IsFormed rdata.now }
     ensures other { IsFalse result → ¬ (IsFormed rdata.now) }
     ensures names { HasNames rdata.now }

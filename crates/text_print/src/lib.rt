@@ -12,7 +12,7 @@ mod message_text;
 mod rest;
 mod text;
 
-pub use data::put_record_data;
+pub use data::{is_formed, put_record_data};
 pub use error::PrintError;
 pub use line::put_record;
 pub use message_text::{FlagsText, MessageText};

@@ -1,4 +1,5 @@
 mod Appending
+mod Goods
 mod HashLengths
 mod Judgements
 mod KeyLines

@@ -28,7 +28,7 @@ use Rattle.tsig.specs.Signing.{Reply, additionals_of, answered, appended, id_of,
 use Rattle.tsig.specs.Standing.{SignedAt}
 use Rattle.tsig.specs.Verifying.{CarriesKey, IsKey, IsWholeMessage, Verifies, VerifiesNext, is_mac_right, message_in, request_data, request_record, signed_request}
 use Rattle.tsig.specs.declared.algorithm.Algorithm.{Algorithm}
-use Rattle.tsig.specs.declared.algorithm.Algorithm.TheVariants.{HmacSha256, HmacSha384, HmacSha512, HmacSha256_128, HmacSha384_192, HmacSha512_256}
+use Rattle.tsig.specs.declared.algorithm.Algorithm.TheVariants.{HmacSha1, HmacSha256, HmacSha384, HmacSha512, HmacSha256_128, HmacSha384_192, HmacSha512_256}
 use Rattle.tsig.specs.declared.judgement.Judgement.{Judgement}
 use Rattle.tsig.specs.declared.judgement.Judgement.TheVariants.{Signed}
 use Rattle.tsig.specs.declared.judgement.Verdict.{Verdict}
@@ -178,6 +178,7 @@ key_named [] name key e = absurd cc
 key_named (k ∷ ks) name key e = found_named k key ks name (λ h. key_named ks name key h) (name_eq k.name name) refl e
 
 whole_len : (a : Algorithm) → is_mac_len a (mac_len a) ≡ true
+whole_len HmacSha1 = refl
 whole_len HmacSha256 = refl
 whole_len HmacSha256_128 = refl
 whole_len HmacSha384 = refl
@@ -186,6 +187,7 @@ whole_len HmacSha512 = refl
 whole_len HmacSha512_256 = refl
 
 short_mac : (a : Algorithm) → mac_len a ≤ 64
+short_mac HmacSha1 = lit≤ tt
 short_mac HmacSha256 = lit≤ tt
 short_mac HmacSha256_128 = lit≤ tt
 short_mac HmacSha384 = lit≤ tt
@@ -194,6 +196,7 @@ short_mac HmacSha512 = lit≤ tt
 short_mac HmacSha512_256 = lit≤ tt
 
 own_name : (a : Algorithm) → is_named a (algorithm_name a) ≡ true
+own_name HmacSha1 = refl
 own_name HmacSha256 = refl
 own_name HmacSha256_128 = refl
 own_name HmacSha384 = refl
@@ -205,6 +208,7 @@ one_label : (label : List ℕ) → 0 < length label → length label < 64 → Al
 one_label label some short = All-from_recursion IsLabel (label ∷ []) ((some, short), tt)
 
 name_of_algorithm : (a : Algorithm) → AreLabels (algorithm_name a).labels
+name_of_algorithm HmacSha1 = record { each = one_label (algorithm_label HmacSha1) (lit< tt) (lit< tt); short = lit≤ tt }
 name_of_algorithm HmacSha256 = record { each = one_label (algorithm_label HmacSha256) (lit< tt) (lit< tt); short = lit≤ tt }
 name_of_algorithm HmacSha256_128 = record { each = one_label (algorithm_label HmacSha256_128) (lit< tt) (lit< tt); short = lit≤ tt }
 name_of_algorithm HmacSha384 = record { each = one_label (algorithm_label HmacSha384) (lit< tt) (lit< tt); short = lit≤ tt }

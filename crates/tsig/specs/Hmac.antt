@@ -1,29 +1,33 @@
 -- The algorithms of transaction signatures (RFC 8945 section 6), and HMAC (RFC 2104) with the hash functions of FIPS
 -- 180-4.
 use Rattle.std.specs.Prelude.{ℕ, ◌-◌, ◌/◌, max, true, [], List, ◌++◌, length, map, replicate, take, codes, ◌∷◌, bit_xor, nat_lt, if◌then◌else◌}
+use Rattle.sha1.specs.Sha1.{sha1}
 use Rattle.sha2.specs.Sha256.{sha256}
 use Rattle.sha2.specs.Sha512.{sha384, sha512}
 use Rattle.wire_names.specs.rr.domain.DomainName.{DomainName}
 use Rattle.tsig.specs.declared.algorithm.Algorithm.{Algorithm}
-use Rattle.tsig.specs.declared.algorithm.Algorithm.TheVariants.{HmacSha256, HmacSha384, HmacSha512, HmacSha256_128, HmacSha384_192, HmacSha512_256}
+use Rattle.tsig.specs.declared.algorithm.Algorithm.TheVariants.{HmacSha1, HmacSha256, HmacSha384, HmacSha512, HmacSha256_128, HmacSha384_192, HmacSha512_256}
 use Rattle.tsig.specs.declared.algorithm.HashFunction.{HashFunction}
-use Rattle.tsig.specs.declared.algorithm.HashFunction.TheVariants.{Sha256, Sha384, Sha512}
+use Rattle.tsig.specs.declared.algorithm.HashFunction.TheVariants.{Sha1, Sha256, Sha384, Sha512}
 
 -- ---- hash functions
 
 abbrev pub hash_of : HashFunction → List ℕ → List ℕ
+hash_of Sha1 text = sha1 text
 hash_of Sha256 text = sha256 text
 hash_of Sha384 text = sha384 text
 hash_of Sha512 text = sha512 text
 
 -- how many bytes a block has: B of RFC 2104 section 2
 abbrev pub block_len : HashFunction → ℕ
+block_len Sha1 = 64
 block_len Sha256 = 64
 block_len Sha384 = 128
 block_len Sha512 = 128
 
 -- how many bytes the function gives: L of RFC 2104 section 2
 abbrev pub hash_len : HashFunction → ℕ
+hash_len Sha1 = 20
 hash_len Sha256 = 32
 hash_len Sha384 = 48
 hash_len Sha512 = 64
@@ -31,6 +35,7 @@ hash_len Sha512 = 64
 -- ---- algorithms
 
 abbrev pub hash_function : Algorithm → HashFunction
+hash_function HmacSha1 = Sha1
 hash_function HmacSha256 = Sha256
 hash_function HmacSha256_128 = Sha256
 hash_function HmacSha384 = Sha384
@@ -41,6 +46,7 @@ hash_function HmacSha512_256 = Sha512
 -- how many bytes a whole MAC of the algorithm has: those of the hash, or the first half of them (RFC 8945 section 6,
 -- RFC 4868 section 2.3)
 abbrev pub mac_len : Algorithm → ℕ
+mac_len HmacSha1 = 20
 mac_len HmacSha256 = 32
 mac_len HmacSha256_128 = 16
 mac_len HmacSha384 = 48
@@ -55,6 +61,7 @@ least_len a = max 10 (hash_len (hash_function a) / 2)
 
 -- its name, of one label (RFC 8945 section 6)
 abbrev pub algorithm_label : Algorithm → List ℕ
+algorithm_label HmacSha1 = codes "hmac-sha1"
 algorithm_label HmacSha256 = codes "hmac-sha256"
 algorithm_label HmacSha256_128 = codes "hmac-sha256-128"
 algorithm_label HmacSha384 = codes "hmac-sha384"

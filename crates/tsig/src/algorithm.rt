@@ -11,6 +11,8 @@ use wire_names::rr::domain::name::Name;
 /// A hash function of FIPS 180-4.
 #[derive(Clone, Copy, Debug, PartialEq, Eq)]
 pub enum HashFunction {
+    /// SHA-1.
+    Sha1,
     /// SHA-256.
     Sha256,
     /// SHA-384.
@@ -25,6 +27,7 @@ impl HashFunction {
         ensures { result ≡ block_len self }
     {
         match self {
+            HashFunction::Sha1 => 64,
             HashFunction::Sha256 => 64,
             HashFunction::Sha384 => 128,
             HashFunction::Sha512 => 128,
@@ -38,6 +41,8 @@ impl HashFunction {
 /// algorithm (section 5.2.2.1), as BIND does for a key of `hmac-sha256-128`.
 #[derive(Clone, Copy, Debug, PartialEq, Eq)]
 pub enum Algorithm {
+    /// `hmac-sha1`, of 20 bytes. It must be implemented, and its use is not recommended (RFC 8945 section 6).
+    HmacSha1,
     /// `hmac-sha256`, of 32 bytes.
     HmacSha256,
     /// `hmac-sha256-128`, of 16 bytes.
@@ -58,6 +63,7 @@ impl Algorithm {
         ensures { result ≡ hash_function self }
     {
         match self {
+            Algorithm::HmacSha1 => HashFunction::Sha1,
             Algorithm::HmacSha256 | Algorithm::HmacSha256_128 => HashFunction::Sha256,
             Algorithm::HmacSha384 | Algorithm::HmacSha384_192 => HashFunction::Sha384,
             Algorithm::HmacSha512 | Algorithm::HmacSha512_256 => HashFunction::Sha512,
@@ -69,6 +75,7 @@ impl Algorithm {
         ensures { result ≡ mac_len self }
     {
         match self {
+            Algorithm::HmacSha1 => 20,
             Algorithm::HmacSha256 => 32,
             Algorithm::HmacSha256_128 => 16,
             Algorithm::HmacSha384 => 48,
@@ -83,6 +90,7 @@ impl Algorithm {
         ensures { result ≡ least_len self }
     {
         match self.hash_function() {
+            HashFunction::Sha1 => 10,
             HashFunction::Sha256 => 16,
             HashFunction::Sha384 => 24,
             HashFunction::Sha512 => 32,
@@ -94,6 +102,7 @@ impl Algorithm {
         ensures { result.now ≡ algorithm_label self }
     {
         match self {
+            Algorithm::HmacSha1 => b"hmac-sha1",
             Algorithm::HmacSha256 => b"hmac-sha256",
             Algorithm::HmacSha256_128 => b"hmac-sha256-128",
             Algorithm::HmacSha384 => b"hmac-sha384",
@@ -108,6 +117,7 @@ impl Algorithm {
         ensures { result.now ≡ canonical (algorithm_name self) }
     {
         match self {
+            Algorithm::HmacSha1 => b"\x09hmac-sha1\0",
             Algorithm::HmacSha256 => b"\x0bhmac-sha256\0",
             Algorithm::HmacSha256_128 => b"\x0fhmac-sha256-128\0",
             Algorithm::HmacSha384 => b"\x0bhmac-sha384\0",

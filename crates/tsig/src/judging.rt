@@ -14,6 +14,7 @@ use crate::judgement::{Judgement, Verdict};
 use crate::keys::{Key, Keys};
 use crate::macs::is_same_mac;
 use crate::reading::{PlacedSignature, signature_of};
+use crate::verified::{TIME_BITS, times_of};
 use std::alloc::{AllocError, Global};
 use wire_messages::rr::dns_class::DNSClass;
 use wire_messages::rr::record::Record;
@@ -183,17 +184,47 @@ fn judgement_of(alloc: Global, keys: &Keys, bytes: &[u8], now: u64) -> Result<Ju
     }
 }
 
+/// Remembers a signature that was judged good, for the verifiers of zones, which have copies of the keys.
+fn remember(
+    alloc: Global,
+    keys: &Keys,
+    bytes: &[u8],
+    now: u64,
+    judgement: &Judgement,
+) -> Result<(), AllocError>
+    requires { judgement.now ≡ judgement_of keys.now bytes.now now }
+{
+    let Judgement::Signed {
+        signature,
+        verdict: Verdict::Good,
+    } = judgement
+    else {
+        return Ok(());
+    };
+    let s = signature.get();
+    match keys.find(&s.name) {
+        Some(key) if s.rdata.time < 1 << TIME_BITS => {
+            keys.remember(alloc, key, bytes, times_of(&s.rdata))
+        }
+        _ => Ok(()),
+    }
+}
+
 /// Judges a message by its signature (RFC 8945 section 5.2), at a moment in seconds since 1970. What stands behind the
 /// message in the bytes is not looked at.
 ///
 /// It reads each record once and hashes the message once, where there is a key for it. Of a MAC it looks at every byte.
+/// It remembers the last message whose signature is good: a [`TsigVerifier`](crate::TsigVerifier) with a copy of the
+/// keys then compares the bytes and does not hash them again.
 pub fn judge(alloc: Global, keys: &Keys, bytes: &[u8], now: u64) -> Result<Judgement, AllocError>
     // What is answered is the judgement, and there is but one.
     ensures judged { IfOk result (λ judgement. Judged keys.now bytes.now now judgement) }
     ensures only { (judgement : Answer) → Judged keys.now bytes.now now judgement →
         IfOk result (λ answer. answer ≡ judgement) }
 {
-    judgement_of(alloc, keys, bytes, now)
+    let judgement = judgement_of(alloc, keys, bytes, now)?;
+    remember(alloc, keys, bytes, now, &judgement)?;
+    Ok(judgement)
 }
 
 /// Any bytes have one judgement, at any moment.

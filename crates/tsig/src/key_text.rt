@@ -27,7 +27,7 @@ pub enum KeyFault {
     #[error("a key without name, algorithm or secret")]
     MissingField,
     /// The algorithm is not one of `Algorithm`.
-    #[error("unknown algorithm; expected hmac-sha256, hmac-sha256-128, hmac-sha384, hmac-sha384-192, hmac-sha512 or hmac-sha512-256")]
+    #[error("unknown algorithm; expected hmac-sha1, hmac-sha256, hmac-sha256-128, hmac-sha384, hmac-sha384-192, hmac-sha512 or hmac-sha512-256")]
     Algorithm,
     /// The name is not a domain name.
     #[error("not a name")]
@@ -76,6 +76,7 @@ fn algorithm_named(text: &str) -> Option<Algorithm>
     ensures { IfSome result (λ algorithm. text.now ≡ algorithm_label algorithm) }
 {
     match text {
+        "hmac-sha1" => Some(Algorithm::HmacSha1),
         "hmac-sha256" => Some(Algorithm::HmacSha256),
         "hmac-sha256-128" => Some(Algorithm::HmacSha256_128),
         "hmac-sha384" => Some(Algorithm::HmacSha384),

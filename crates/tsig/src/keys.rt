@@ -1,15 +1,18 @@
 //! Keys by their names.
 
-ghost use Rattle.std.specs.Prelude.{◌≡◌, ◌++◌, ◌∷◌, [], ◌↔◌, IsTrue, IfOk, OnOk, OnErr, length};
+ghost use Rattle.std.specs.Prelude.{◌≡◌, ◌++◌, ◌∷◌, [], ◌↔◌, IsTrue, IfOk, IfSome, OnOk, OnErr, Some, length};
 ghost use Rattle.std.specs.Option.{option_copied};
 ghost use Rattle.tsig.specs.Hmac.{hash_len, hmac, mac_len, mac_of};
 ghost use Rattle.tsig.specs.Keys.{key_of};
+ghost use Rattle.tsig.specs.Validity.{times_if_known};
 
 use crate::algorithm::{Algorithm, HashFunction};
 use crate::macs::{hmac, hmac_behind, pads_of};
 use crate::pads::Pads;
+use crate::verified::{LastVerified, Verified};
 use std::alloc::{AllocError, Global};
 use std::marker::Model;
+use std::ops::Range;
 use wire_names::rr::domain::name::Name;
 
 /// The secret of a key. It has no text form: neither `Debug` nor `Display`, and nothing outside this crate sees its
@@ -55,6 +58,13 @@ impl Secret {
         Ok(Secret { bytes, pads: None })
     }
 
+    /// Whether its bytes are those of another secret.
+    fn is_same(&self, other: &Secret) -> bool
+        ensures { IsTrue result → self.now ≡ other.now }
+    {
+        self.bytes.as_slice() == other.bytes.as_slice()
+    }
+
     /// Hashes its pads, so that HMACs by this function need not.
     fn prepare(&mut self, alloc: Global, function: HashFunction) -> Result<(), AllocError>
         ensures { self.new ≡ self.old }
@@ -80,6 +90,13 @@ impl Secret {
         }
         hmac(alloc, function, self.bytes.as_slice(), text)
     }
+}
+
+/// Whether two names have the same letters, in the same case.
+fn is_written_so(one: &Name, other: &Name) -> bool
+    ensures { IsTrue result → one.now ≡ other.now }
+{
+    one.as_wire() == other.as_wire() && one.is_fqdn() == other.is_fqdn()
 }
 
 /// A secret that client and server share, with its name and the one algorithm that it is used with (RFC 8945 section
@@ -122,8 +139,21 @@ impl Key {
         Ok(mac)
     }
 
+    /// Whether another key is this one: its name has the same letters, in the same case.
+    pub(crate) fn is_same(&self, other: &Key) -> bool
+        ensures { IsTrue result → self.now ≡ other.now }
+    {
+        if !is_written_so(&self.name, &other.name) {
+            return false;
+        }
+        if !self.secret.is_same(&other.secret) {
+            return false;
+        }
+        self.algorithm == other.algorithm && self.shortest == other.shortest
+    }
+
     /// A copy.
-    fn copied(&self, alloc: Global) -> Result<Key, AllocError>
+    pub(crate) fn copied(&self, alloc: Global) -> Result<Key, AllocError>
         ensures { IfOk result (λ key. key ≡ self.now) }
     {
         Ok(Key {
@@ -135,10 +165,19 @@ impl Key {
     }
 }
 
-/// Keys by their names.
+/// The same memory, for copies of the keys.
+fn shared(last: &Option<LastVerified>) -> Result<Option<LastVerified>, AllocError> {
+    match last {
+        Some(last) => Ok(Some(last.share()?)),
+        None => Ok(None),
+    }
+}
+
+/// Keys by their names. They remember the signature that was found good last, and share it with their copies.
 #[derive(Drop)]
 pub struct Keys {
     keys: Vec<Key>,
+    last: Option<LastVerified>,
 }
 
 impl Model for Keys {
@@ -157,6 +196,7 @@ impl Keys {
     {
         Keys {
             keys: Vec::new(alloc),
+            last: None,
         }
     }
 
@@ -173,21 +213,54 @@ impl Keys {
         ensures ok { OnOk result (self.new ≡ self.old ++ key ∷ []) }
         ensures err { OnErr result (self.new ≡ self.old) }
     {
+        let alloc = *self.keys.allocator();
         let function = key.algorithm.hash_function();
-        key.secret.prepare(*self.keys.allocator(), function)?;
+        key.secret.prepare(alloc, function)?;
+        if self.last.is_none() {
+            self.last = Some(LastVerified::new(alloc)?);
+        }
         self.keys.push(key)?;
         Ok(())
     }
 
-    /// A copy.
+    /// A copy. A signature that was found good by one of both is known to the other.
     pub fn copied(&self, alloc: Global) -> Result<Keys, AllocError>
         ensures { IfOk result (λ keys. keys ≡ self.now) }
     {
-        let mut keys = Keys::new(alloc);
+        let mut keys = Keys {
+            keys: Vec::new(alloc),
+            last: shared(&self.last)?,
+        };
         for key in self.keys.as_slice() {
             keys.add(key.copied(alloc)?)?;
         }
         Ok(keys)
+    }
+
+    /// When the signature of a message is good by a key, if it is the message that was remembered last.
+    pub(crate) fn remembered(&self, key: &Key, message: &[u8]) -> Option<Range<u64>>
+        ensures { IfSome result (λ times. times_if_known (Some key.now) message.now ≡ Some times) }
+    {
+        match &self.last {
+            Some(last) => last.times(key, message),
+            None => None,
+        }
+    }
+
+    /// Remembers when the signature of a message is good by a key.
+    pub(crate) fn remember(
+        &self,
+        alloc: Global,
+        key: &Key,
+        message: &[u8],
+        times: Range<u64>,
+    ) -> Result<(), AllocError>
+        requires { times_if_known (Some key.now) message.now ≡ Some times }
+    {
+        if let Some(last) = &self.last {
+            last.set(Verified::new(alloc, key, message, times)?);
+        }
+        Ok(())
     }
 
     /// The key of a name, letter case aside. It looks at each key in turn.

@@ -16,6 +16,7 @@ mod reading;
 mod signer;
 mod signing;
 mod stripping;
+mod verified;
 mod verifier;
 mod writing;
 

@@ -6,6 +6,7 @@ ghost use Rattle.tsig.specs.Pads.{ArePads, function_of};
 
 use crate::algorithm::{Algorithm, HashFunction};
 use crate::pads::Pads;
+use sha1::Sha1;
 use sha2::{Digest, Sha256, Sha384, Sha512};
 use std::alloc::{AllocError, Global};
 
@@ -14,6 +15,7 @@ fn hash(alloc: Global, function: HashFunction, text: &[u8]) -> Result<Vec<u8>, A
     ensures { IfOk result (λ digest. digest.items ≡ hash_of function text.now) }
 {
     match function {
+        HashFunction::Sha1 => Vec::from_slice(alloc, &Sha1::digest(text)),
         HashFunction::Sha256 => Vec::from_slice(alloc, &Sha256::digest(text)),
         HashFunction::Sha384 => Vec::from_slice(alloc, &Sha384::digest(text)),
         HashFunction::Sha512 => Vec::from_slice(alloc, &Sha512::digest(text)),

@@ -1,6 +1,7 @@
 //! Hashers behind the pads of a key (RFC 2104 section 4).
 
 ghost use Rattle.std.specs.Prelude.{◌≡◌, ◌++◌, IfOk, List, ℕ, length};
+ghost use Rattle.sha1.specs.Sha1.{Holds, sha1};
 ghost use Rattle.sha2.specs.Hashers.{Holds256, Holds384, Holds512};
 ghost use Rattle.sha2.specs.Sha256.{sha256};
 ghost use Rattle.sha2.specs.Sha512.{sha384, sha512};
@@ -8,6 +9,7 @@ ghost use Rattle.tsig.specs.Hmac.{hash_len, hash_of};
 ghost use Rattle.tsig.specs.Pads.{Hold, function_of};
 
 use crate::algorithm::HashFunction;
+use sha1::Sha1;
 use sha2::{Digest, Sha256, Sha384, Sha512};
 use std::alloc::{AllocError, Global};
 
@@ -15,12 +17,32 @@ use std::alloc::{AllocError, Global};
 /// the key is hashed in them.
 #[derive(Drop)]
 pub(crate) enum Pads {
+    /// By SHA-1.
+    By1(Sha1, Sha1),
     /// By SHA-256.
     By256(Sha256, Sha256),
     /// By SHA-384.
     By384(Sha384, Sha384),
     /// By SHA-512.
     By512(Sha512, Sha512),
+}
+
+/// A hasher by SHA-1 that has taken a text.
+fn taken1(text: &[u8]) -> Sha1
+    ensures { Holds result text.now }
+{
+    let mut hasher = Sha1::new();
+    hasher.update(text);
+    hasher
+}
+
+/// The digest by SHA-1 of what a hasher holds, and a text after it.
+fn finished1(hasher: &Sha1, text: &[u8]) -> Result<[u8; 20], AllocError>
+    ensures { (held : List ℕ) → Holds hasher.now held → IfOk result (λ digest. digest ≡ sha1 (held ++ text.now)) }
+{
+    let mut hasher = hasher.clone()?;
+    hasher.update(text);
+    Ok(hasher.finalize())
 }
 
 /// The digest by SHA-256 of what a hasher holds, and a text behind it.
@@ -48,6 +70,18 @@ fn finished512(hasher: &Sha512, text: &[u8]) -> Result<[u8; 64], AllocError>
     let mut hasher = hasher.clone()?;
     hasher.update(text);
     Ok(hasher.finalize())
+}
+
+/// By SHA-1 the digest of what the second hasher holds and, after it, the digest of what the first one holds and a
+/// text.
+fn twice1(alloc: Global, first: &Sha1, second: &Sha1, text: &[u8]) -> Result<Vec<u8>, AllocError>
+    ensures value { (i o : List ℕ) → Holds first.now i → Holds second.now o →
+        IfOk result (λ digest. digest.items ≡ sha1 (o ++ sha1 (i ++ text.now))) }
+    ensures len { IfOk result (λ digest. length digest.items ≡ 20) }
+{
+    let digest = finished1(first, text)?;
+    let digest = finished1(second, &digest)?;
+    Vec::from_slice(alloc, &digest)
 }
 
 /// By SHA-256 the digest of what the second hasher holds and, behind it, the digest of what the first one holds and a
@@ -108,6 +142,7 @@ impl Pads {
         ensures hold { Hold result inner.now outer.now }
     {
         match function {
+            HashFunction::Sha1 => Pads::By1(taken1(inner), taken1(outer)),
             HashFunction::Sha256 => Pads::By256(
                 Sha256::new_with_prefix(inner),
                 Sha256::new_with_prefix(outer),
@@ -128,6 +163,7 @@ impl Pads {
         ensures { result ≡ function_of self.now }
     {
         match self {
+            Pads::By1(_, _) => HashFunction::Sha1,
             Pads::By256(_, _) => HashFunction::Sha256,
             Pads::By384(_, _) => HashFunction::Sha384,
             Pads::By512(_, _) => HashFunction::Sha512,
@@ -142,6 +178,7 @@ impl Pads {
         ensures len { IfOk result (λ digest. length digest.items ≡ hash_len (function_of self.now)) }
     {
         match self {
+            Pads::By1(inner, outer) => twice1(alloc, inner, outer, text),
             Pads::By256(inner, outer) => twice256(alloc, inner, outer, text),
             Pads::By384(inner, outer) => twice384(alloc, inner, outer, text),
             Pads::By512(inner, outer) => twice512(alloc, inner, outer, text),

@@ -1,12 +1,13 @@
 //! Who judges the signatures of updates and transfers, for a zone's handler.
 
-ghost use Rattle.std.specs.Prelude.{◌≡◌, ◌<◌, ◌^◌, IfOk, is_some};
+ghost use Rattle.std.specs.Prelude.{◌≡◌, IfOk, is_some};
 ghost use Rattle.tsig.specs.Keys.{key_of};
-ghost use Rattle.tsig.specs.Validity.{is_of, is_signed, times_by, times_of, validity};
+ghost use Rattle.tsig.specs.Validity.{is_of, is_signed, times_by, validity};
 
 use crate::judging::{has_fixed_fields, is_mac_len, is_mac_of, is_named, signed_text};
 use crate::keys::{Key, Keys};
 use crate::reading::{PlacedSignature, signature_of};
+use crate::verified::{TIME_BITS, times_of};
 use hickory_store::updates::{Verifier, VerifyError};
 use std::alloc::{AllocError, Global};
 use std::ops::Range;
@@ -14,9 +15,6 @@ use wire_messages::rr::record::Record;
 use wire_messages::rr::tsig::TSIG;
 use wire_names::error::DecodeError;
 use wire_names::rr::domain::name::Name;
-
-/// The seconds since 1970 have so many bits in a signature.
-const TIME_BITS: u32 = 48;
 
 /// It judges signatures by its keys, for one handler. `judge` says more of a message: this says of a signature only
 /// whether it is good, and when, so that a key of another algorithm is as bad as a wrong MAC.
@@ -58,15 +56,6 @@ fn is_signed(
     is_mac_of(alloc, key, &text, p.signature.rdata.mac.as_slice())
 }
 
-/// When a signature is good.
-fn times_of(t: &TSIG) -> Range<u64>
-    requires { t.now.time < 2 ^ 48 }
-    ensures { result ≡ times_of t.now }
-{
-    let fudge = u64::from(t.fudge);
-    t.time.saturating_sub(fudge)..t.time + fudge + 1
-}
-
 /// When the signature of a message is good by the key.
 fn times_by(
     alloc: Global,
@@ -97,6 +86,9 @@ impl Verifier for TsigVerifier {
         let Some(key) = self.keys.find(key) else {
             return Err(VerifyError::Bad);
         };
+        if let Some(times) = self.keys.remembered(key, message) {
+            return Ok(times);
+        }
         let p = match signature_of(alloc, message) {
             Ok(Some(p)) => p,
             Ok(None) => return Err(VerifyError::Bad),

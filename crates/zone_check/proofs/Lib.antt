@@ -1,5 +1,9 @@
+pub mod ChainOwners
+pub mod ChainedZones
 pub mod Earlier
 pub mod Lookups
+pub mod NextOwners
 pub mod SameNames
+pub mod SignedAnswers
 pub mod Walks
 pub mod Selections

@@ -1,5 +1,6 @@
 -- What maps from names and types to places say of the records there.
 use Rattle.std.proofs.Common.{◌≡◌, ◌==◌, ◌&&◌, ◌<◌, ℕ, Bool, true, false, cond, ◌∷◌, length, drop, get_or, suc, refl, sym, ap, ◌∙◌, ◌-◌, ◌≤◌, subst, arith, nat_lt, Option, Some, None}
+use Rattle.std.specs.Prelude.{is_some}
 use Rattle.std.proofs.Math.Seq.{drop-cons}
 use Rattle.std.proofs.lemmas.Bool.Decides.{nat_tests}
 use Rattle.std.proofs.lemmas.Option.{slice_get_read}
@@ -17,7 +18,9 @@ use Rattle.wire_names.proofs.lemmas.rr.domain.SameNames.{same_order, lower_same}
 use Rattle.wire_names.specs.rr.domain.DomainName.{DomainName}
 use Rattle.wire_names.specs.rr.domain.NameOrder.{SameName, lower_name, name_cmp, name_eq}
 use Rattle.zone_check.specs.CheckedZones.{Records, ancestor, is_of, is_data_of, is_data_type, is_named, is_server_of, is_wild_address, is_wild_address_of, server_of}
-use Rattle.zone_check.specs.Indexes.{HasData, HasFirsts, HasServers, HasWilds, Points}
+use Rattle.zone_check.specs.CheckedZones.{type_nsec}
+use Rattle.zone_check.specs.Indexes.{HasData, HasFirsts, HasNsecs, HasServers, HasSignatures, HasWilds, Points}
+use Rattle.zone_check.specs.SignedZones.{covered_of, is_number, is_signature_of}
 use Rattle.zone_check.proofs.SameNames.{same_ancestor}
 
 eq_by_tests : (a b : ℕ) (below same : Bool) → nat_lt a b ≡ below → (a == b) ≡ same → is_eq (cond below Less (cond same Equal Greater)) ≡ same
@@ -37,13 +40,17 @@ eq_then Greater p = refl
 itself : (name : DomainName) → SameName name name
 itself name = record { labels = refl; marks = refl }
 
+-- the key of a record's name and a type finds what is of both
+key_with : (r : Record RData) (t : ℕ) (q : RrKey) → is_eq (key_cmp (record { name = lower_name r.name; record_type = t }) q) ≡ (name_eq r.name q.name && (t == q.record_type))
+key_with r t q =
+    let order : name_cmp (lower_name r.name) q.name ≡ name_cmp r.name q.name = same_order (lower_name r.name) q.name r.name q.name (lower_same r.name) (itself q.name) in
+    eq_then (name_cmp (lower_name r.name) q.name) (nat_cmp t q.record_type)
+    ∙ ap (λ o. is_eq o && is_eq (nat_cmp t q.record_type)) order
+    ∙ ap (λ b. is_eq (name_cmp r.name q.name) && b) (eq_numbers t q.record_type)
+
 -- the key of a record finds what is of its name and type
 pub key_is : (r : Record RData) (q : RrKey) → is_eq (key_cmp (record { name = lower_name r.name; record_type = type_of r.rdata }) q) ≡ is_of q.name q.record_type r
-key_is r q =
-    let order : name_cmp (lower_name r.name) q.name ≡ name_cmp r.name q.name = same_order (lower_name r.name) q.name r.name q.name (lower_same r.name) (itself q.name) in
-    eq_then (name_cmp (lower_name r.name) q.name) (nat_cmp (type_of r.rdata) q.record_type)
-    ∙ ap (λ o. is_eq o && is_eq (nat_cmp (type_of r.rdata) q.record_type)) order
-    ∙ ap (λ b. is_eq (name_cmp r.name q.name) && b) (eq_numbers (type_of r.rdata) q.record_type)
+key_is r q = key_with r (type_of r.rdata) q
 
 -- and its name what is of its name
 pub name_is : (r : Record RData) (q : DomainName) → is_eq (name_cmp (lower_name r.name) q) ≡ name_eq r.name q
@@ -56,6 +63,10 @@ host_is host q = ap is_eq (same_order (lower_name host) q host q (lower_same hos
 -- and the name above it what is of that name
 pub above_is : (r : Record RData) (q : DomainName) → is_eq (name_cmp (ancestor (lower_name r.name) 1) q) ≡ name_eq (ancestor r.name 1) q
 above_is r q = ap is_eq (same_order (ancestor (lower_name r.name) 1) q (ancestor r.name 1) q (same_ancestor r.name 1) (itself q))
+
+both_some : {A B : Type 0} (b : Bool) (x : A) (y : B) (old : Option A) (rest : Option B) → is_some old ≡ is_some rest → is_some (cond b (Some x) old) ≡ is_some (cond b (Some y) rest)
+both_some true x y old rest same = refl
+both_some false x y old rest same = same
 
 and_true : (b : Bool) → (b && true) ≡ b
 and_true true = refl
@@ -129,6 +140,36 @@ module _ (records : Records) (behind : ℕ) (r : Record RData) (some : 0 < behin
       let fails : is_data_of q r ≡ false = ap (λ b. name_eq r.name q && b) no_data ∙ and_false (name_eq r.name q) in
       let more : Points records (drop (behind - 1) records) (is_data_of q) (cond (is_data_of q r) (Some (behind - 1)) (get name_cmp others q)) = put_in_front (is_data_of q) (get name_cmp others q) (kept q) in
       rw fails at more
+
+  signature_test : (q : RrKey) (covered : Option ℕ) → covered_of r.rdata ≡ covered → is_signature_of q.name q.record_type r ≡ (name_eq r.name q.name && is_number q.record_type covered)
+  signature_test q covered is = ap (λ o. name_eq r.name q.name && is_number q.record_type o) is
+
+  pub one_more_signature : (old new : BTreeMap RrKey ℕ) (covered : ℕ) → covered_of r.rdata ≡ Some covered → Updates key_cmp old new (record { name = lower_name r.name; record_type = covered }) (Some (behind - 1))
+      → HasSignatures records (drop behind records) old → HasSignatures records (drop (behind - 1) records) new
+  one_more_signature old new covered names updates kept q =
+      rw (updates.0 q ∙ ap (λ b. cond b (Some (behind - 1)) (get key_cmp old q)) (key_with r covered q ∙ sym (signature_test q (Some covered) names)))
+      (put_in_front (is_signature_of q.name q.record_type) (get key_cmp old q) (kept q))
+
+  pub no_signature_more : (signatures : BTreeMap RrKey ℕ) → covered_of r.rdata ≡ None → HasSignatures records (drop behind records) signatures → HasSignatures records (drop (behind - 1) records) signatures
+  no_signature_more signatures none kept q =
+      let fails : is_signature_of q.name q.record_type r ≡ false = signature_test q None none ∙ and_false (name_eq r.name q.name) in
+      let more : Points records (drop (behind - 1) records) (is_signature_of q.name q.record_type) (cond (is_signature_of q.name q.record_type r) (Some (behind - 1)) (get key_cmp signatures q)) =
+      put_in_front (is_signature_of q.name q.record_type) (get key_cmp signatures q) (kept q) in
+      rw fails at more
+
+  found_at : (q : DomainName) → is_some (find (is_of q type_nsec) (drop (behind - 1) records)) ≡ is_some (cond (is_of q type_nsec r) (Some r) (find (is_of q type_nsec) (drop behind records)))
+  found_at q = ap (λ rs. is_some (find (is_of q type_nsec) rs)) front
+
+  pub one_more_nsec : (old new : BTreeMap DomainName ℕ) → (type_of r.rdata == type_nsec) ≡ true → Updates name_cmp old new (lower_name r.name) (Some (behind - 1)) → HasNsecs (drop behind records) old → HasNsecs (drop (behind - 1) records) new
+  one_more_nsec old new typed updates kept q =
+      let test : is_of q type_nsec r ≡ name_eq r.name q = ap (λ b. name_eq r.name q && b) typed ∙ and_true (name_eq r.name q) in
+      ap is_some (updates.0 q ∙ ap (λ b. cond b (Some (behind - 1)) (get name_cmp old q)) (name_is r q ∙ sym test))
+      ∙ both_some (is_of q type_nsec r) (behind - 1) r (get name_cmp old q) (find (is_of q type_nsec) (drop behind records)) (kept q) ∙ sym (found_at q)
+
+  pub no_nsec_more : (nsecs : BTreeMap DomainName ℕ) → (type_of r.rdata == type_nsec) ≡ false → HasNsecs (drop behind records) nsecs → HasNsecs (drop (behind - 1) records) nsecs
+  no_nsec_more nsecs typed kept q =
+      let fails : is_of q type_nsec r ≡ false = ap (λ b. name_eq r.name q && b) typed ∙ and_false (name_eq r.name q) in
+      kept q ∙ ap (λ b. is_some (cond b (Some r) (find (is_of q type_nsec) (drop behind records)))) (sym fails) ∙ sym (found_at q)
 
 -- where a map points to, and where it points nowhere
 pub pointed : (records : Records) (test : Record RData → Bool) (found : Option ℕ) (place : ℕ) → Points records records test found → found ≡ Some place → slice_get records place ≡ find test records

@@ -9,6 +9,7 @@ use Rattle.wire_messages.specs.declared.rr.record.Record.{Record}
 use Rattle.wire_names.proofs.lemmas.rr.domain.SameNames.{same_order, lower_same, lower_labels-twice}
 use Rattle.wire_names.specs.rr.domain.DomainName.{DomainName}
 use Rattle.wire_names.specs.rr.domain.NameOrder.{Encloses, SameName, lower_label, lower_labels, lower_name, name_eq}
+use Rattle.zone_check.specs.SignedZones.{covered_of, is_number, is_signature_of}
 use Rattle.zone_check.specs.CheckedZones.{CheckedZone, HasWildAddress, IsBelowApex, IsCut, IsDnameOwner, IsInZone, Owns, Records, ancestor, is_data_of, is_data_type, is_named, is_of, is_server_of, is_wild_address, is_wild_address_of, server_of}
 
 find_alike : (p q : Record RData → Bool) (rs : Records) → ((r : Record RData) → p r ≡ q r) → find p rs ≡ find q rs
@@ -45,6 +46,9 @@ server_alike rs a b s = find_alike (is_server_of a) (is_server_of b) rs (λ r. b
 
 pub server_lower : (rs : Records) (name : DomainName) → find (is_server_of (lower_name name)) rs ≡ find (is_server_of name) rs
 server_lower rs name = server_alike rs (lower_name name) name (lower_same name)
+
+pub signature_lower : (rs : Records) (name : DomainName) (t : ℕ) → find (is_signature_of (lower_name name) t) rs ≡ find (is_signature_of name t) rs
+signature_lower rs name t = find_alike (is_signature_of (lower_name name) t) (is_signature_of name t) rs (λ r. ap (λ e. e && is_number t (covered_of r.rdata)) (eq_alike (lower_name name) name r (lower_same name)))
 
 pub wild_alike : (rs : Records) (a b : DomainName) → SameName a b → find (is_wild_address_of a) rs ≡ find (is_wild_address_of b) rs
 wild_alike rs a b s = find_alike (is_wild_address_of a) (is_wild_address_of b) rs (λ r. ap (λ e. e && is_wild_address r) (ap is_eq (same_order (ancestor r.name 1) a (ancestor r.name 1) b (itself (ancestor r.name 1)) s)))

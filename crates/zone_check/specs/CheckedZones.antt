@@ -12,16 +12,17 @@ use Rattle.wire_messages.specs.declared.rr.record.Record.{Record}
 abbrev pub Records : Type 0
 Records = List (Record RData)
 
--- The zone: the name of its apex, its records as the file has them, and the serial that the one before it has, if that
--- is given.
+-- The zone: the name of its apex, its records as the file has them, the serial that the one before it has, if that is
+-- given, and the time, in seconds since 1970 modulo 2^32, if that is known.
 pub record CheckedZone : Type 0 where
   pub origin : DomainName
   pub records : Records
   pub previous : Option ℕ
+  pub time : Option ℕ
 
 -- the zone of an apex, which is taken as fully qualified
-abbrev pub checked_zone : DomainName → Records → Option ℕ → CheckedZone
-checked_zone origin records previous = record { origin = record origin { is_fqdn = true }; records = records; previous = previous }
+abbrev pub checked_zone : DomainName → Records → Option ℕ → Option ℕ → CheckedZone
+checked_zone origin records previous time = record { origin = record origin { is_fqdn = true }; records = records; previous = previous; time = time }
 
 -- Types by their numbers (RFC 1035 section 3.2.2, RFC 2535 section 3, RFC 2782, RFC 3596 section 2.1, RFC 6672 section
 -- 2.1, RFC 4034, RFC 5155 section 4).

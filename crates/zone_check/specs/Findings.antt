@@ -1,5 +1,5 @@
 -- What a careful operator asks of a zone before it is served, and what is found where the zone does not answer.
-use Rattle.std.specs.Prelude.{◌≡◌, ◌≢◌, ◌<◌, ◌≤◌, ◌+◌, ◌-◌, ◌*◌, ◌==◌, ◌||◌, ◌^◌, ◌⊎◌, ℕ, zero, suc, List, [], ◌∷◌, ◌++◌, length, map, drop, cond, if◌then◌else◌, nat_lt, Bool, false, Option, Some, None, Ok, Err, MatchOption}
+use Rattle.std.specs.Prelude.{◌≡◌, ◌≢◌, ◌<◌, ◌≤◌, ◌+◌, ◌-◌, ◌*◌, ◌==◌, ◌||◌, ◌^◌, ◌⊎◌, ℕ, zero, suc, List, [], ◌∷◌, ◌++◌, length, map, drop, cond, if◌then◌else◌, nat_lt, Bool, true, false, Option, Some, None, Ok, Err, MatchOption}
 use Rattle.std.specs.List.{slice_get}
 use Rattle.std.specs.Option.{option_map}
 use Rattle.wire_names.specs.rr.domain.DomainName.{DomainName}
@@ -14,6 +14,8 @@ use Rattle.wire_messages.specs.declared.rr.rdata.SOA.{SOA}
 use Rattle.wire_messages.specs.declared.rr.record.Record.{Record}
 use Rattle.zone_check.specs.CheckedZones.{CheckedZone, IsApex, IsBelowApex, IsBelowCut, IsBelowDname, IsBelowWildcard, IsCut, IsInZone, IsServer, Owns, OwnsAddress, OwnsData, Records, first_of}
 use Rattle.zone_check.specs.CheckedZones.{type_rrsig, type_a, type_aaaa, type_cname, type_dname, type_ds, type_ns, type_nsec, type_nsec3param, type_soa, type_srv}
+use Rattle.zone_check.specs.Serials.{IsAbove}
+use Rattle.zone_check.specs.SignedZones.{EndsSoon, HasEnded, HasIterations, HasOtherNext, IsSigned, IsUnlisted, IsUnreadNsec, IsUnsigned, LacksNsec, ListsIdleType, OfTimes, covered_of}
 use Rattle.zone_check.specs.declared.finding.Finding.{Finding}
 use Rattle.zone_check.specs.declared.finding.Kind.{Kind}
 use Rattle.zone_check.specs.declared.finding.Kind.TheVariants as kind
@@ -36,9 +38,9 @@ pub record IsSoaBelowApex (zone : CheckedZone) (r : Record RData) : Type 0 where
   pub below : IsBelowApex zone r.name
 
 -- a type of which a name owns one record: SOA (RFC 1035 section 5.2), CNAME (RFC 2181 section 10.1), DNAME (RFC 6672
--- section 2.4)
+-- section 2.4), NSEC (RFC 4035 section 2.3)
 abbrev pub IsSingle : ℕ → Type 0
-IsSingle t = (t ≡ type_soa) ⊎ (t ≡ type_cname) ⊎ (t ≡ type_dname)
+IsSingle t = (t ≡ type_soa) ⊎ (t ≡ type_cname) ⊎ (t ≡ type_dname) ⊎ (t ≡ type_nsec)
 
 -- What is said holds of the first record of the same name and type.
 abbrev pub OfFirst : (Record RData → Type 0) → CheckedZone → Record RData → Type 0
@@ -161,10 +163,6 @@ serial_of r = option_map (λ (soa : SOA). soa.serial) (soa_of r.rdata)
 abbrev pub OfSoa : (SOA → Type 0) → RData → Type 0
 OfSoa Is content = MatchOption (soa_of content) ⊥ Is
 
--- The serial is above the other (RFC 1982 section 3.2).
-abbrev pub IsAbove : ℕ → ℕ → Type 0
-IsAbove serial other = (other < serial × serial - other < 2 ^ 31) ⊎ (serial < other × 2 ^ 31 < other - serial)
-
 -- The serial is not above that of the zone before, if that is given (RFC 1982 section 3.2, RFC 1912 section 2.2).
 abbrev pub IsNotAbove : CheckedZone → SOA → Type 0
 IsNotAbove zone soa = MatchOption zone.previous ⊥ (λ previous. ¬ (IsAbove soa.serial previous))
@@ -195,16 +193,6 @@ pub record IsNsec3paramBelowApex (zone : CheckedZone) (r : Record RData) : Type 
   pub typed : type_of r.rdata ≡ type_nsec3param
   pub below : IsBelowApex zone r.name
 
--- the first two octets as a number
-abbrev pub first_word : List ℕ → Option ℕ
-first_word (a ∷ b ∷ octets) = Some (a * 256 + b)
-first_word octets = None
-
--- the type that an RRSIG record covers (RFC 4034 section 3.1.1)
-abbrev pub covered_of : RData → Option ℕ
-covered_of (rdata.Unknown code octets) = if code == type_rrsig then first_word octets else None
-covered_of other = None
-
 -- An RRSIG record covers a type of which the name has no records (RFC 4035 section 2.2).
 abbrev pub CoversNothing : CheckedZone → Record RData → Type 0
 CoversNothing zone r = MatchOption (covered_of r.rdata) ⊥ (λ t. ¬ (Owns zone r.name t))
@@ -218,25 +206,62 @@ IsFoundOfSoa kind.Expire zone content = OfSoa HasOddExpire content
 IsFoundOfSoa kind.Minimum zone content = OfSoa HasOddMinimum content
 IsFoundOfSoa other zone content = ⊥
 
+-- What is found of a record if the zone is signed, by kind.
+abbrev pub IsFoundIfSigned : Kind → CheckedZone → Record RData → Type 0
+IsFoundIfSigned kind.NoNsec zone r = LacksNsec zone r
+IsFoundIfSigned kind.UnreadNsec zone r = IsUnreadNsec r
+IsFoundIfSigned kind.OtherNext zone r = HasOtherNext zone r
+IsFoundIfSigned kind.IdleType zone r = ListsIdleType zone r
+IsFoundIfSigned kind.Unlisted zone r = IsUnlisted zone r
+IsFoundIfSigned kind.Unsigned zone r = IsUnsigned zone r
+IsFoundIfSigned kind.Ended zone r = OfTimes HasEnded zone r.rdata
+IsFoundIfSigned kind.EndsSoon zone r = OfTimes EndsSoon zone r.rdata
+IsFoundIfSigned kind.Iterations zone r = HasIterations r.rdata
+IsFoundIfSigned other zone r = ⊥
+
+abbrev pub IsFoundOfSigned : Kind → CheckedZone → Record RData → Type 0
+IsFoundOfSigned k zone r = IsSigned zone × IsFoundIfSigned k zone r
+
+-- What is found of the record at a place, be the zone signed or not, by kind.
+abbrev pub IsFoundOfAny : Kind → CheckedZone → ℕ → Record RData → Type 0
+IsFoundOfAny kind.Outside zone place r = IsOutside zone r
+IsFoundOfAny kind.SoaBelowApex zone place r = IsSoaBelowApex zone r
+IsFoundOfAny kind.Second zone place r = IsSecond zone r
+IsFoundOfAny kind.Repeated zone place r = IsRepeated zone.records place r
+IsFoundOfAny kind.CnameBesideData zone place r = IsCnameBesideData zone r
+IsFoundOfAny kind.BelowDname zone place r = IsUnderDname zone r
+IsFoundOfAny kind.BelowCut zone place r = IsDataBelowCut zone r
+IsFoundOfAny kind.AtCut zone place r = IsDataAtCut zone r
+IsFoundOfAny kind.OtherTtl zone place r = HasOtherTtl zone r
+IsFoundOfAny kind.NoAddress zone place r = OfHost (IsWithoutAddress zone) r.rdata
+IsFoundOfAny kind.NoGlue zone place r = OfHost (LacksGlue zone r) r.rdata
+IsFoundOfAny kind.IdleGlue zone place r = IsIdleGlue zone r
+IsFoundOfAny kind.HostIsAlias zone place r = OfHost (IsAliased zone) r.rdata
+IsFoundOfAny kind.DsAtApex zone place r = IsDsAtApex zone r
+IsFoundOfAny kind.Nsec3paramBelowApex zone place r = IsNsec3paramBelowApex zone r
+IsFoundOfAny kind.CoversNothing zone place r = CoversNothing zone r
+IsFoundOfAny other zone place r = IsFoundOfSoa other zone r.rdata
+
+-- the kinds of findings that only signed zones have
+abbrev pub is_for_signed : Kind → Bool
+is_for_signed kind.NoNsec = true
+is_for_signed kind.UnreadNsec = true
+is_for_signed kind.OtherNext = true
+is_for_signed kind.IdleType = true
+is_for_signed kind.Unlisted = true
+is_for_signed kind.Unsigned = true
+is_for_signed kind.Ended = true
+is_for_signed kind.EndsSoon = true
+is_for_signed kind.Iterations = true
+is_for_signed other = false
+
+abbrev pub OneOf : Bool → Type 0 → Type 0 → Type 0
+OneOf true A B = A
+OneOf false A B = B
+
 -- What is found of the record at a place, by kind.
 abbrev pub IsFoundOf : Kind → CheckedZone → ℕ → Record RData → Type 0
-IsFoundOf kind.Outside zone place r = IsOutside zone r
-IsFoundOf kind.SoaBelowApex zone place r = IsSoaBelowApex zone r
-IsFoundOf kind.Second zone place r = IsSecond zone r
-IsFoundOf kind.Repeated zone place r = IsRepeated zone.records place r
-IsFoundOf kind.CnameBesideData zone place r = IsCnameBesideData zone r
-IsFoundOf kind.BelowDname zone place r = IsUnderDname zone r
-IsFoundOf kind.BelowCut zone place r = IsDataBelowCut zone r
-IsFoundOf kind.AtCut zone place r = IsDataAtCut zone r
-IsFoundOf kind.OtherTtl zone place r = HasOtherTtl zone r
-IsFoundOf kind.NoAddress zone place r = OfHost (IsWithoutAddress zone) r.rdata
-IsFoundOf kind.NoGlue zone place r = OfHost (LacksGlue zone r) r.rdata
-IsFoundOf kind.IdleGlue zone place r = IsIdleGlue zone r
-IsFoundOf kind.HostIsAlias zone place r = OfHost (IsAliased zone) r.rdata
-IsFoundOf kind.DsAtApex zone place r = IsDsAtApex zone r
-IsFoundOf kind.Nsec3paramBelowApex zone place r = IsNsec3paramBelowApex zone r
-IsFoundOf kind.CoversNothing zone place r = CoversNothing zone r
-IsFoundOf other zone place r = IsFoundOfSoa other zone r.rdata
+IsFoundOf k zone place r = OneOf (is_for_signed k) (IsFoundOfSigned k zone r) (IsFoundOfAny k zone place r)
 
 -- What is found of the zone as a whole, by kind.
 abbrev pub IsFoundOfZone : Kind → CheckedZone → Type 0
@@ -252,7 +277,8 @@ Holds zone finding = MatchOption finding.place (IsFoundOfZone finding.kind zone)
 abbrev pub kinds_of_records : List Kind
 kinds_of_records =
     kind.Outside ∷ kind.SoaBelowApex ∷ kind.Second ∷ kind.Repeated ∷ kind.CnameBesideData ∷ kind.BelowDname ∷ kind.BelowCut ∷ kind.AtCut ∷ kind.OtherTtl ∷ kind.NoAddress ∷ kind.NoGlue ∷ kind.IdleGlue ∷ kind.HostIsAlias
-    ∷ kind.SerialNotAbove ∷ kind.Refresh ∷ kind.Retry ∷ kind.Expire ∷ kind.Minimum ∷ kind.DsAtApex ∷ kind.Nsec3paramBelowApex ∷ kind.CoversNothing ∷ []
+    ∷ kind.SerialNotAbove ∷ kind.Refresh ∷ kind.Retry ∷ kind.Expire ∷ kind.Minimum ∷ kind.DsAtApex ∷ kind.Nsec3paramBelowApex ∷ kind.CoversNothing
+    ∷ kind.NoNsec ∷ kind.UnreadNsec ∷ kind.OtherNext ∷ kind.IdleType ∷ kind.Unlisted ∷ kind.Unsigned ∷ kind.Ended ∷ kind.EndsSoon ∷ kind.Iterations ∷ []
 
 abbrev pub at_place : ℕ → Kind → Finding
 at_place place k = record { place = Some place; kind = k }

@@ -1,6 +1,6 @@
 -- How records are found without a walk over all of them: by maps from what they are found by to the place of the first
 -- such record.
-use Rattle.std.specs.Prelude.{◌≡◌, ◌<◌, ℕ, zero, suc, Bool, false, List, Option, Some, None, cond, length}
+use Rattle.std.specs.Prelude.{◌≡◌, ◌<◌, ℕ, zero, suc, Bool, false, List, Option, Some, None, is_some, cond, length}
 use Rattle.std.specs.List.{find, slice_get}
 use Rattle.std.specs.Option.{option_map_or}
 use Rattle.std.specs.BTreeMap.{BTreeMap, get}
@@ -11,7 +11,8 @@ use Rattle.wire_messages.specs.declared.rr.rr_key.RrKey.{RrKey}
 use Rattle.wire_messages.specs.rr.RrKeys.{key_cmp}
 use Rattle.wire_names.specs.rr.domain.DomainName.{DomainName}
 use Rattle.wire_names.specs.rr.domain.NameOrder.{lower_name, name_cmp}
-use Rattle.zone_check.specs.CheckedZones.{Records, is_of, is_data_of, is_server_of, is_wild_address_of}
+use Rattle.zone_check.specs.CheckedZones.{Records, is_of, is_data_of, is_server_of, is_wild_address_of, type_nsec}
+use Rattle.zone_check.specs.SignedZones.{is_signature_of}
 
 -- The place is that of the first of the last records that passes the test, or there is none.
 abbrev pub Points : Records → Records → (Record RData → Bool) → Option ℕ → Type 0
@@ -34,6 +35,14 @@ HasWilds records last wilds = (q : DomainName) → Points records last (is_wild_
 -- The map has for each name the place of the first of the last records that is an NS record that names it as a host.
 abbrev pub HasServers : Records → Records → BTreeMap DomainName ℕ → Type 0
 HasServers records last servers = (q : DomainName) → Points records last (is_server_of q) (get name_cmp servers q)
+
+-- The map has the names that NSEC records among the last records have.
+abbrev pub HasNsecs : Records → BTreeMap DomainName ℕ → Type 0
+HasNsecs last nsecs = (q : DomainName) → is_some (get name_cmp nsecs q) ≡ is_some (find (is_of q type_nsec) last)
+
+-- The map has for each name and type the place of the first of the last records that is a signature over such records.
+abbrev pub HasSignatures : Records → Records → BTreeMap RrKey ℕ → Type 0
+HasSignatures records last signatures = (q : RrKey) → Points records last (is_signature_of q.name q.record_type) (get key_cmp signatures q)
 
 -- whether the record at a place passes the test
 abbrev pub passes_at : Records → (Record RData → Bool) → ℕ → Bool

@@ -1,3 +1,6 @@
+pub mod ChainedZones
 pub mod CheckedZones
 pub mod Findings
 pub mod Indexes
+pub mod Serials
+pub mod SignedZones

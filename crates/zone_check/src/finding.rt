@@ -26,8 +26,8 @@ pub enum Kind {
     /// An SOA record stands below the apex (RFC 1035 section 5.2).
     #[error("an SOA record below the apex")]
     SoaBelowApex,
-    /// The name has another record of a type of which it may have one: SOA, CNAME or DNAME (RFC 1035 section 5.2, RFC
-    /// 2181 section 10.1, RFC 6672 section 2.4).
+    /// The name has another record of a type of which it may have one: SOA, CNAME, DNAME or NSEC (RFC 1035 section 5.2,
+    /// RFC 2181 section 10.1, RFC 6672 section 2.4, RFC 4035 section 2.3).
     #[error("another record of a type of which a name has one")]
     Second,
     /// A record before it is the same, its TTL aside (RFC 2181 section 5).
@@ -85,6 +85,33 @@ pub enum Kind {
     /// An RRSIG record covers a type of which the name has no records (RFC 4035 section 2.2).
     #[error("it covers a type of which the name has no records")]
     CoversNothing,
+    /// The zone is signed with NSEC records, and the owner name has none (RFC 4035 section 2.3).
+    #[error("the zone is signed, and the owner name has no NSEC record")]
+    NoNsec,
+    /// The data of an NSEC record do not have their form (RFC 4034 section 4.1).
+    #[error("the data are not a name and a type bit map")]
+    UnreadNsec,
+    /// The next name of an NSEC record is not the next owner name (RFC 4034 section 4.1.1).
+    #[error("the next name is not the next owner name of the zone")]
+    OtherNext,
+    /// An NSEC record lists a type of which the zone has no records at its name (RFC 4034 section 4.1.2).
+    #[error("it lists a type of which the zone has no records here")]
+    IdleType,
+    /// The NSEC record of the owner name does not list the type of the record (RFC 4034 section 4.1.2).
+    #[error("the NSEC record of the owner name does not list the type")]
+    Unlisted,
+    /// The zone is signed, and the record is not (RFC 4035 section 2.2).
+    #[error("the zone is signed, and no RRSIG record covers this record")]
+    Unsigned,
+    /// The signature has ended (RFC 4034 section 3.1.5).
+    #[error("the signature has expired")]
+    Ended,
+    /// The signature ends within 7 days.
+    #[error("the signature expires within 7 days")]
+    EndsSoon,
+    /// NSEC3 parameters with iterations (RFC 9276 section 3.1).
+    #[error("the number of iterations is not 0")]
+    Iterations,
 }
 
 impl Kind {
@@ -103,7 +130,14 @@ impl Kind {
             | Kind::HostIsAlias
             | Kind::SerialNotAbove
             | Kind::DsAtApex
-            | Kind::Nsec3paramBelowApex => Severity::Fault,
+            | Kind::Nsec3paramBelowApex
+            | Kind::NoNsec
+            | Kind::UnreadNsec
+            | Kind::OtherNext
+            | Kind::IdleType
+            | Kind::Unlisted
+            | Kind::Unsigned
+            | Kind::Ended => Severity::Fault,
             Kind::Repeated
             | Kind::BelowCut
             | Kind::AtCut
@@ -113,7 +147,9 @@ impl Kind {
             | Kind::Retry
             | Kind::Expire
             | Kind::Minimum
-            | Kind::CoversNothing => Severity::Warning,
+            | Kind::CoversNothing
+            | Kind::EndsSoon
+            | Kind::Iterations => Severity::Warning,
         }
     }
 }

@@ -1,19 +1,23 @@
 //! Records found by name and type.
 
-ghost use Rattle.std.specs.Prelude.{◌≡◌, ◌↔◌, ◌<◌, IfOk, IsTrue, Some, length};
+ghost use Rattle.std.specs.Prelude.{◌≡◌, ◌==◌, ◌↔◌, ◌<◌, IfOk, IsTrue, MatchOption, Some, length};
 ghost use Rattle.std.specs.List.{find, slice_get};
 ghost use Rattle.std.specs.Option.{option_copied};
 ghost use Rattle.wire_messages.specs.rr.RecordData.{type_of};
 ghost use Rattle.wire_messages.specs.rr.RecordSameness.{SameRecord};
+ghost use Rattle.wire_names.specs.rr.domain.DomainName.{DomainName};
 ghost use Rattle.wire_names.specs.rr.domain.NameOrder.{is_wildcard, lower_name};
-ghost use Rattle.zone_check.specs.CheckedZones.{ancestor, is_data_of, is_data_type, is_of, is_server_of, is_wild_address, is_wild_address_of, server_of};
+ghost use Rattle.zone_check.specs.CheckedZones.{Records, ancestor, is_data_of, is_data_type, is_of, is_server_of, is_wild_address, is_wild_address_of, server_of, type_nsec};
 ghost use Rattle.zone_check.specs.Findings.{IsRepeated};
-ghost use Rattle.zone_check.specs.Indexes.{HasData, HasEarlier, HasFirsts, HasServers, HasWilds};
+ghost use Rattle.zone_check.specs.Indexes.{HasData, HasEarlier, HasFirsts, HasNsecs, HasServers, HasSignatures, HasWilds};
+ghost use Rattle.zone_check.specs.SignedZones.{IsFirstLater, IsLaterOwner, is_signature_of};
 ghost use Rattle.wire_messages.specs.declared.rr.rdata.RData.{RData as RecordData};
 ghost use Rattle.wire_messages.specs.declared.rr.record.Record.{Record as RecordOf};
 
+use crate::octets::covered_of;
 use std::alloc::{AllocError, Global};
 use std::collections::BTreeMap;
+use std::ops::{Bound, RangeBounds};
 use wire_messages::rr::rdata::RData;
 use wire_messages::rr::record::Record;
 use wire_messages::rr::record_sameness::record_comparisons;
@@ -22,13 +26,21 @@ use wire_messages::rr::rr_key::RrKey;
 use wire_names::rr::domain::lower_name::LowerName;
 use wire_names::rr::domain::name::Name;
 
+/// The key of a record's name and a type.
+fn key_with(alloc: Global, record: &Record, record_type: RecordType) -> Result<RrKey, AllocError>
+    ensures { IfOk result (λ key. key ≡ record
+        { name = lower_name «record».now.name; record_type = record_type }) }
+{
+    let name = LowerName::new(alloc, &record.name)?;
+    Ok(RrKey::new(name, record_type))
+}
+
 /// The key of a record.
 fn key_of(alloc: Global, record: &Record) -> Result<RrKey, AllocError>
     ensures { IfOk result (λ key. key ≡ record
         { name = lower_name «record».now.name; record_type = type_of «record».now.rdata }) }
 {
-    let name = LowerName::new(alloc, &record.name)?;
-    Ok(RrKey::new(name, record.rdata.record_type()))
+    key_with(alloc, record, record.rdata.record_type())
 }
 
 /// The place of the first record of each name and type.
@@ -206,6 +218,88 @@ pub(crate) fn servers_of(
     Ok(servers)
 }
 
+/// Whether a type is NSEC.
+fn is_nsec(record_type: RecordType) -> bool
+    ensures { result ≡ (record_type == type_nsec) }
+{
+    record_type == RecordType::NSEC
+}
+
+/// The names that have NSEC records, each with the place of its first one.
+pub(crate) fn nsecs_of(
+    alloc: Global,
+    records: &[Record],
+) -> Result<BTreeMap<LowerName, usize>, AllocError>
+    ensures { IfOk result (HasNsecs records.now) }
+{
+    let mut nsecs = BTreeMap::new(alloc);
+    let mut place = records.len();
+    while place > 0 {
+        place -= 1;
+        let record = &records[place];
+        if is_nsec(record.rdata.record_type()) {
+            let name = LowerName::new(alloc, &record.name)?;
+            let _ = nsecs.insert(name, place)?;
+        }
+    }
+    Ok(nsecs)
+}
+
+/// The place of the first signature over records of each name and type.
+pub(crate) fn signatures_of(
+    alloc: Global,
+    records: &[Record],
+) -> Result<BTreeMap<RrKey, usize>, AllocError>
+    ensures { IfOk result (HasSignatures records.now records.now) }
+{
+    let mut signatures = BTreeMap::new(alloc);
+    let mut place = records.len();
+    while place > 0 {
+        place -= 1;
+        let record = &records[place];
+        if let Some(covered) = covered_of(record) {
+            let key = key_with(alloc, record, covered)?;
+            let _ = signatures.insert(key, place)?;
+        }
+    }
+    Ok(signatures)
+}
+
+/// The names after a name in canonical order.
+#[derive(Drop)]
+struct After {
+    name: LowerName,
+}
+
+impl RangeBounds<LowerName> for After {
+    ghost use Rattle.std.specs.Prelude.{⊤};
+    ghost use Rattle.std.specs.declared.ops.Bound.TheVariants.{Excluded};
+
+    ghost has_bounds = { λ _. ⊤ };
+
+    ghost start_bound = { λ s. Excluded s.name };
+
+    fn start_bound(&self) -> Bound<&LowerName> {
+        Bound::Excluded(&self.name)
+    }
+
+    fn end_bound(&self) -> Bound<&LowerName> {
+        Bound::Unbounded
+    }
+}
+
+/// The first name after a name in canonical order that has an NSEC record.
+pub(crate) fn later_owner(nsecs: &BTreeMap<LowerName, usize>, name: LowerName) -> Option<&LowerName>
+    ensures { (records : Records) → HasNsecs records nsecs.now →
+        MatchOption (option_copied result) ((other : DomainName) → ¬ (IsLaterOwner records name other))
+        (IsFirstLater records name) }
+{
+    match nsecs.range(After { name }).next() {
+        Some((later, _)) => Some(later),
+        None => None,
+    }
+}
+
 /// The record at a place, if there is one.
 pub(crate) fn record_at(records: &[Record], place: usize) -> Option<&Record>
     ensures { option_copied result ≡ slice_get records.now place }
@@ -227,6 +321,21 @@ pub(crate) fn first_under<'z>(
     ensures { option_copied result ≡ find (is_of key.now.name key.now.record_type) records.now }
 {
     match firsts.get(key) {
+        Some(place) => record_at(records, *place),
+        None => None,
+    }
+}
+
+/// The first signature over records of a name in lower case and a type.
+pub(crate) fn signature_under<'z>(
+    records: &'z [Record],
+    signatures: &BTreeMap<RrKey, usize>,
+    key: &RrKey,
+) -> Option<&'z Record>
+    requires { HasSignatures records.now records.now signatures.now }
+    ensures { option_copied result ≡ find (is_signature_of key.now.name key.now.record_type) records.now }
+{
+    match signatures.get(key) {
         Some(place) => record_at(records, *place),
         None => None,
     }

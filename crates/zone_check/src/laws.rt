@@ -2,6 +2,7 @@
 
 ghost use Rattle.std.specs.Prelude.{List, length};
 ghost use Rattle.std.specs.List.{Contains};
+ghost use Rattle.zone_check.specs.ChainedZones.{FaultlessZonesAreChained};
 ghost use Rattle.zone_check.specs.CheckedZones.{CheckedZone};
 ghost use Rattle.zone_check.specs.Findings.{AreFindings, Holds, all_findings};
 ghost use Rattle.zone_check.specs.declared.finding.Finding.{Finding as FindingOf};
@@ -13,4 +14,10 @@ pub fn findings_hold()
     ensures complete { (zone : CheckedZone) (findings : List FindingOf) (finding : FindingOf) →
         AreFindings zone findings → Contains (all_findings (length zone.records)) finding → Holds zone finding →
         Contains findings finding }
+{}
+
+/// A signed zone without NSEC3 parameters has a complete chain of NSEC records, if nothing of seven kinds is found of its
+/// records.
+pub fn faultless_zones_are_chained()
+    ensures { FaultlessZonesAreChained }
 {}

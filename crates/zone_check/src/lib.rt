@@ -7,6 +7,8 @@ mod index;
 pub mod laws;
 mod looking;
 mod names;
+mod octets;
+mod signed;
 mod starts;
 mod subject;
 

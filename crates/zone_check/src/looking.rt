@@ -3,7 +3,7 @@
 ghost use Rattle.std.specs.Prelude.{◌≡◌, ◌↔◌, ◌++◌, ◌∷◌, [], List, IfOk, IsTrue, OnOk, Some, length, map};
 ghost use Rattle.std.specs.List.{slice_get};
 ghost use Rattle.zone_check.specs.CheckedZones.{Owns, checked_zone};
-ghost use Rattle.zone_check.specs.Findings.{AreFindings, Holds, IsFoundOf, IsFoundOfZone, Selects, at_place, of_whole};
+ghost use Rattle.zone_check.specs.Findings.{AreFindings, Holds, IsFoundOf, IsFoundOfAny, IsFoundOfZone, Selects, at_place, is_for_signed, of_whole};
 ghost use Rattle.zone_check.specs.declared.finding.Finding.{Finding as FindingOf};
 
 use crate::finding::{Finding, Kind};
@@ -12,6 +12,7 @@ use crate::names::{
     covers_nothing, has_other_ttl, is_cname_beside_data, is_data_at_cut, is_data_below_cut,
     is_ds_at_apex, is_nsec3param_below_apex, is_outside, is_second, is_soa_below_apex,
 };
+use crate::signed::is_of_signed;
 use crate::starts::{
     has_low_serial, has_odd_expire, has_odd_minimum, has_odd_refresh, has_odd_retry,
 };
@@ -44,8 +45,8 @@ fn is_of_zone(alloc: Global, zone: &Subject<'_>, kind: Kind) -> Result<bool, All
     }
 }
 
-/// Whether a finding of this kind is one of the record at a place.
-fn is_of_record(
+/// Whether a finding of this kind is one of the record at a place, be the zone signed or not.
+fn is_of_any(
     alloc: Global,
     zone: &Subject<'_>,
     place: usize,
@@ -53,7 +54,7 @@ fn is_of_record(
     kind: Kind,
 ) -> Result<bool, AllocError>
     requires { slice_get zone.now.records place ≡ Some «record».now }
-    ensures { IfOk result (λ is. IsTrue is ↔ IsFoundOf kind zone.now place «record».now) }
+    ensures { IfOk result (λ is. IsTrue is ↔ IsFoundOfAny kind zone.now place «record».now) }
 {
     match kind {
         Kind::NoSoa | Kind::NoServers => Ok(false),
@@ -78,7 +79,43 @@ fn is_of_record(
         Kind::DsAtApex => Ok(is_ds_at_apex(zone, record)),
         Kind::Nsec3paramBelowApex => Ok(is_nsec3param_below_apex(zone, record)),
         Kind::CoversNothing => covers_nothing(alloc, zone, record),
+        _ => Ok(false),
     }
+}
+
+/// Whether only signed zones have findings of this kind.
+fn is_for_signed(kind: Kind) -> bool
+    ensures { result ≡ is_for_signed kind }
+{
+    match kind {
+        Kind::NoNsec => true,
+        Kind::UnreadNsec => true,
+        Kind::OtherNext => true,
+        Kind::IdleType => true,
+        Kind::Unlisted => true,
+        Kind::Unsigned => true,
+        Kind::Ended => true,
+        Kind::EndsSoon => true,
+        Kind::Iterations => true,
+        _ => false,
+    }
+}
+
+/// Whether a finding of this kind is one of the record at a place.
+fn is_of_record(
+    alloc: Global,
+    zone: &Subject<'_>,
+    place: usize,
+    record: &Record,
+    kind: Kind,
+) -> Result<bool, AllocError>
+    requires { slice_get zone.now.records place ≡ Some «record».now }
+    ensures { IfOk result (λ is. IsTrue is ↔ IsFoundOf kind zone.now place «record».now) }
+{
+    if is_for_signed(kind) {
+        return is_of_signed(alloc, zone, record, kind);
+    }
+    is_of_any(alloc, zone, place, record, kind)
 }
 
 /// Whether a finding holds.
@@ -113,7 +150,7 @@ fn look_for(
 }
 
 /// All kinds of findings of a record, in the order in which they are told.
-const KINDS: [Kind; 21] = [
+const KINDS: [Kind; 30] = [
     Kind::Outside,
     Kind::SoaBelowApex,
     Kind::Second,
@@ -135,6 +172,15 @@ const KINDS: [Kind; 21] = [
     Kind::DsAtApex,
     Kind::Nsec3paramBelowApex,
     Kind::CoversNothing,
+    Kind::NoNsec,
+    Kind::UnreadNsec,
+    Kind::OtherNext,
+    Kind::IdleType,
+    Kind::Unlisted,
+    Kind::Unsigned,
+    Kind::Ended,
+    Kind::EndsSoon,
+    Kind::Iterations,
 ];
 
 /// Puts what is found of the record at a place behind other findings, by these kinds.
@@ -192,9 +238,9 @@ fn look_at_all(alloc: Global, zone: &Subject<'_>, count: usize) -> Result<Vec<Fi
 /// record by kind, as the kinds stand in [`Kind`].
 ///
 /// `records` are the records of a zone file in its order, as `zone_text::read_zone_file` gives them; `origin` is the
-/// name of the apex, taken as fully qualified. `previous` is the serial of the zone before, if that is known. The time
-/// is by the records, for each by the labels of its name, the depth of a map of all, and the records of its name and
-/// type before it; the memory is by the records.
+/// name of the apex, taken as fully qualified. `previous` is the serial of the zone before, and `time` the seconds since
+/// 1970 modulo 2^32, if these are known. It takes time by the records, for each by the labels of its name, the depth of a
+/// map of all, and the records of its name and type before it; the memory is by the records.
 ///
 /// # Errors
 ///
@@ -204,10 +250,11 @@ pub fn check(
     origin: &Name,
     records: &[Record],
     previous: Option<u32>,
+    time: Option<u32>,
 ) -> Result<Vec<Finding>, AllocError>
-    ensures { IfOk result (λ found. AreFindings (checked_zone origin.now records.now previous) found.items) }
+    ensures { IfOk result (λ found. AreFindings (checked_zone origin.now records.now previous time) found.items) }
 {
-    let zone = Subject::new(alloc, origin, records, previous)?;
+    let zone = Subject::new(alloc, origin, records, previous, time)?;
     let found = look_at_all(alloc, &zone, records.len())?;
     Ok(found)
 }

@@ -2,8 +2,9 @@
 
 ghost use Rattle.std.specs.Prelude.{◌≡◌, ◌↔◌, IfOk, IsTrue};
 ghost use Rattle.wire_messages.specs.rr.RecordSameness.{SameData};
-ghost use Rattle.zone_check.specs.Findings.{CoversNothing, HasOtherTtl, IsCnameBesideData, IsDataAtCut, IsDataBelowCut, IsDsAtApex, IsNsec3paramBelowApex, IsOutside, IsSecond, IsSingle, IsSoaBelowApex, OfFirst, covered_of, first_word, is_cut_type};
+ghost use Rattle.zone_check.specs.Findings.{CoversNothing, HasOtherTtl, IsCnameBesideData, IsDataAtCut, IsDataBelowCut, IsDsAtApex, IsNsec3paramBelowApex, IsOutside, IsSecond, IsSingle, IsSoaBelowApex, OfFirst, is_cut_type};
 
+use crate::octets::covered_of;
 use crate::subject::{DNAME, Subject};
 use std::alloc::{AllocError, Global};
 use wire_messages::rr::rdata::RData;
@@ -32,6 +33,7 @@ fn is_single(record_type: RecordType) -> bool
     record_type == RecordType::SOA
         || record_type == RecordType::CNAME
         || record_type.value() == DNAME
+        || record_type == RecordType::NSEC
 }
 
 /// Whether the data of two records are not the same.
@@ -154,32 +156,6 @@ pub(crate) fn is_nsec3param_below_apex(zone: &Subject<'_>, record: &Record) -> b
     ensures { IsTrue result ↔ IsNsec3paramBelowApex zone.now «record».now }
 {
     record.rdata.record_type() == RecordType::NSEC3PARAM && zone.is_below_apex(&record.name)
-}
-
-/// The first two bytes as the number of a type.
-fn first_word(bytes: &[u8]) -> Option<RecordType>
-    ensures { result ≡ first_word bytes.now }
-{
-    match bytes {
-        [high, low, ..] => Some(RecordType::new(u16::from(*high) * 256 + u16::from(*low))),
-        _ => None,
-    }
-}
-
-/// The type that an RRSIG record covers.
-fn covered_of(record: &Record) -> Option<RecordType>
-    ensures { result ≡ covered_of «record».now.rdata }
-{
-    match &record.rdata {
-        RData::Unknown { code, bytes } => {
-            if *code == RecordType::RRSIG {
-                first_word(bytes.as_slice())
-            } else {
-                None
-            }
-        }
-        _ => None,
-    }
 }
 
 /// Whether it is an RRSIG record over a type of which the name has no records.

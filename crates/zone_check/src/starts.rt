@@ -3,7 +3,8 @@
 ghost use Rattle.std.specs.Prelude.{◌≡◌, ◌↔◌, IsTrue};
 ghost use Rattle.std.specs.Option.{option_copied};
 ghost use Rattle.zone_check.specs.CheckedZones.{is_of, type_soa};
-ghost use Rattle.zone_check.specs.Findings.{HasOddExpire, HasOddMinimum, HasOddRefresh, HasOddRetry, IsAbove, IsNotAbove, OfSoa, serial_of, soa_of};
+ghost use Rattle.zone_check.specs.Findings.{HasOddExpire, HasOddMinimum, HasOddRefresh, HasOddRetry, IsNotAbove, OfSoa, serial_of, soa_of};
+ghost use Rattle.zone_check.specs.Serials.{IsAbove};
 
 use crate::subject::Subject;
 use wire_messages::rr::rdata::{RData, SOA};
@@ -15,7 +16,7 @@ use wire_names::rr::domain::name::Name;
 const HALF: u32 = 0x8000_0000;
 
 /// Whether a serial is above another.
-fn is_above(serial: u32, other: u32) -> bool
+pub(crate) fn is_above(serial: u32, other: u32) -> bool
     ensures { IsTrue result ↔ IsAbove serial other }
 {
     if other < serial {

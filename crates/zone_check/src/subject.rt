@@ -1,13 +1,15 @@
 //! The zone that is checked, with its records found by name.
 
-ghost use Rattle.std.specs.Prelude.{◌≡◌, ◌↔◌, ◌<◌, Some, IfOk, IsTrue, length, true};
+ghost use Rattle.std.specs.Prelude.{◌≡◌, ◌↔◌, ◌<◌, Some, IfOk, IsTrue, MatchOption, length};
 ghost use Rattle.std.specs.List.{find, slice_get};
 ghost use Rattle.std.specs.Option.{option_copied};
+ghost use Rattle.wire_names.specs.rr.domain.DomainName.{DomainName};
 ghost use Rattle.wire_names.specs.rr.domain.NameOrder.{lower_name};
-ghost use Rattle.zone_check.specs.CheckedZones.{HasWildAddress, IsApex, IsBelowApex, IsBelowCut, IsBelowDname, IsBelowWildcard, IsCut, IsDnameOwner, IsInZone, IsServer, Owns, OwnsAddress, OwnsData, first_of, is_data_of, is_server_of, is_wild_address_of};
+ghost use Rattle.zone_check.specs.CheckedZones.{HasWildAddress, IsApex, IsBelowApex, IsBelowCut, IsBelowDname, IsBelowWildcard, IsCut, IsDnameOwner, IsInZone, IsServer, Owns, OwnsAddress, OwnsData, checked_zone, first_of, is_data_of, is_server_of, is_wild_address_of};
 ghost use Rattle.wire_messages.specs.declared.rr.rdata.RData.{RData as RecordData};
 ghost use Rattle.wire_messages.specs.declared.rr.record.Record.{Record as RecordOf};
 ghost use Rattle.zone_check.specs.Findings.{IsRepeated};
+ghost use Rattle.zone_check.specs.SignedZones.{IsCovered, IsFirstLater, IsLaterOwner, is_signature_of};
 
 use crate::index;
 use std::alloc::{AllocError, Global};
@@ -25,6 +27,7 @@ pub(crate) struct Subject<'z> {
     origin: Name,
     records: &'z [Record],
     previous: Option<u32>,
+    time: Option<u32>,
     // The place of the first record of each name and type.
     firsts: BTreeMap<RrKey, usize>,
     // The place of the first record of each name that may not stand beside a CNAME.
@@ -35,19 +38,24 @@ pub(crate) struct Subject<'z> {
     servers: BTreeMap<LowerName, usize>,
     // For each record the place of the last one before it that is of its name and type.
     earlier: Vec<Option<usize>>,
+    // The place of the first NSEC record of each name.
+    nsecs: BTreeMap<LowerName, usize>,
+    // The place of the first signature over records of each name and type.
+    signatures: BTreeMap<RrKey, usize>,
 }
 
 impl<'z> Model for Subject<'z> {
     ghost use Rattle.zone_check.specs.CheckedZones.{CheckedZone};
-    ghost use Rattle.zone_check.specs.Indexes.{HasData, HasEarlier, HasFirsts, HasServers, HasWilds};
+    ghost use Rattle.zone_check.specs.Indexes.{HasData, HasEarlier, HasFirsts, HasNsecs, HasServers, HasSignatures, HasWilds};
 
     ghost Value = { CheckedZone };
 
-    ghost view = { λ s. record { origin = s.origin; records = s.records.now; previous = s.previous } };
+    ghost view = { λ s. record { origin = s.origin; records = s.records.now; previous = s.previous; time = s.time } };
 
     ghost invariant = { λ s. HasFirsts s.records.now s.records.now s.firsts ×
         HasData s.records.now s.records.now s.others × HasWilds s.records.now s.records.now s.wilds ×
-        HasServers s.records.now s.records.now s.servers × HasEarlier s.records.now s.earlier.items };
+        HasServers s.records.now s.records.now s.servers × HasEarlier s.records.now s.earlier.items ×
+        HasNsecs s.records.now s.nsecs × HasSignatures s.records.now s.records.now s.signatures };
 }
 
 impl<'z> Subject<'z> {
@@ -57,14 +65,9 @@ impl<'z> Subject<'z> {
         origin: &Name,
         records: &'z [Record],
         previous: Option<u32>,
+        time: Option<u32>,
     ) -> Result<Subject<'z>, AllocError>
-        ensures { IfOk result (λ subject.
-            subject ≡ record {
-              origin = record origin.now { is_fqdn = true };
-              records = records.now;
-              previous =
-                  previous;
-            }) }
+        ensures { IfOk result (λ subject. subject ≡ checked_zone origin.now records.now previous time) }
     {
         let mut apex = origin.clone()?;
         apex.set_fqdn(true);
@@ -72,11 +75,14 @@ impl<'z> Subject<'z> {
             origin: apex,
             records,
             previous,
+            time,
             firsts: index::firsts_of(alloc, records)?,
             others: index::data_of(alloc, records)?,
             wilds: index::wilds_of(alloc, records)?,
             servers: index::servers_of(alloc, records)?,
             earlier: index::earlier_of(alloc, records)?,
+            nsecs: index::nsecs_of(alloc, records)?,
+            signatures: index::signatures_of(alloc, records)?,
         })
     }
 
@@ -101,6 +107,13 @@ impl<'z> Subject<'z> {
         ensures { result ≡ self.now.previous }
     {
         self.previous
+    }
+
+    /// The time, in seconds since 1970 modulo 2^32, if it is known.
+    pub(crate) fn time(&self) -> Option<u32>
+        ensures { result ≡ self.now.time }
+    {
+        self.time
     }
 
     /// The name of its apex.
@@ -151,6 +164,49 @@ impl<'z> Subject<'z> {
             return Ok(true);
         }
         self.owns(alloc, name, RecordType::AAAA)
+    }
+
+    /// The first signature over records of a name in lower case and a type.
+    fn signature_under(&self, key: &RrKey) -> Option<&Record>
+        ensures { option_copied result ≡ find (is_signature_of key.now.name key.now.record_type) self.now.records }
+    {
+        index::signature_under(self.records, &self.signatures, key)
+    }
+
+    /// The first signature over records of a name and a type.
+    fn signature_of(
+        &self,
+        alloc: Global,
+        name: &Name,
+        record_type: RecordType,
+    ) -> Result<Option<&Record>, AllocError>
+        ensures { IfOk result (λ first.
+            option_copied first ≡ find (is_signature_of name.now record_type) self.now.records) }
+    {
+        let key = RrKey::new(LowerName::new(alloc, name)?, record_type);
+        Ok(self.signature_under(&key))
+    }
+
+    /// Whether a name has a signature over records of a type.
+    pub(crate) fn is_covered(
+        &self,
+        alloc: Global,
+        name: &Name,
+        record_type: RecordType,
+    ) -> Result<bool, AllocError>
+        ensures { IfOk result (λ is. IsTrue is ↔ IsCovered self.now name.now record_type) }
+    {
+        let first = self.signature_of(alloc, name, record_type)?;
+        Ok(first.is_some())
+    }
+
+    /// The first name after a name in canonical order that has an NSEC record.
+    pub(crate) fn later_owner(&self, name: LowerName) -> Option<&LowerName>
+        ensures { MatchOption (option_copied result)
+            ((other : DomainName) → ¬ (IsLaterOwner self.now.records name other))
+            (IsFirstLater self.now.records name) }
+    {
+        index::later_owner(&self.nsecs, name)
     }
 
     /// The first record of a name in lower case that may not stand beside a CNAME.

@@ -4,7 +4,7 @@ mod Loading
 mod Named
 mod Results
 mod ServedLines
-mod Servers
 mod Streams
+mod Whole
 mod Words
 mod Written

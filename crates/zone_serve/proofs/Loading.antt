@@ -1,10 +1,8 @@
 -- Lists that are put on a list of blocked names, zones that are loaded, and journals that are opened, one after the
 -- other.
-use Rattle.std.proofs.Common.{◌≡◌, ◌<◌, ◌+◌, ◌++◌, ◌∷◌, [], ℕ, List, Bor, Option, Some, None, Result, Ok, Err, IfOk, IsNone, OnOk, length, get_or, take, map, refl, sym, ap, ◌∙◌, subst, option_map}
-use Rattle.std.proofs.lemmas.Bool.{false≢true}
+use Rattle.std.proofs.Common.{◌≡◌, ◌<◌, ◌+◌, ◌++◌, ◌∷◌, [], ℕ, List, Bor, Option, Result, Ok, Err, IfOk, OnOk, length, get_or, take, map, sym, ap, ◌∙◌, subst}
 use Rattle.std.proofs.lemmas.List.{map-append, take_more}
 use Rattle.std.specs.List.{AllZip}
-use Rattle.std.specs.Option.{option_copied}
 use Rattle.wire_names.specs.rr.domain.DomainName.{DomainName}
 use Rattle.hickory_store.specs.blocklist.BlockAnswers.{Blocklist}
 use Rattle.name_lists.specs.Adding.{AddsList}
@@ -15,10 +13,11 @@ use Rattle.served_zones.specs.ServedZones as served
 use Rattle.sqlite_disk.specs.declared.Disk.{Ghosts as DiskGhosts}
 use Rattle.zone_serve.specs.Catalogs.{AddsFile, AddsFiles, AreLoaded, IsZoneAt}
 use Rattle.zone_serve.specs.Catalogs as catalogs
-use Rattle.zone_serve.specs.Journals.{AreJournalled, IsJournalledBy}
+use Rattle.zone_serve.specs.Journals.{AreJournalled, IsJournalledBy, apexes_of}
 use Rattle.zone_serve.specs.Journals as journals
 use Rattle.zone_serve.proofs.Named.{zip_more}
 use Rattle.serve_options.specs.declared.arguments.ZoneArgument.{ZoneArgument}
+use Rattle.zone_serve.specs.declared.journals.Journalled.{Journalled}
 
 -- lists in files, and one more
 pub files_more : (opens : List ℕ → List ℕ → Type 0) (files : List (Bor (List ℕ))) (place : ℕ) (d : Bor (List ℕ)) (old between new : Blocklist) → place < length files
@@ -42,15 +41,6 @@ pub file_added : {E : Type 0} (opens : List ℕ → List ℕ → Type 0) (file t
 file_added opens file text (Ok counts) old new opened adds some is = record { text = text; opened = opened; counts = counts; adds = adds; some = some; others = is }
 file_added opens file text (Err e) old new opened adds some is = tt
 
-pub none_is : {A : Type 0} (value : Option A) → IsNone value → value ≡ None
-none_is None is = refl
-none_is (Some a) is = absurd (false≢true (sym is))
-
--- what an option of references points to
-pub copied_map : {X Y : Type 0} (f : X → Y) (o : Option (Bor X)) → option_map (λ (it : Bor X). f it.now) o ≡ option_map f (option_copied o)
-copied_map f None = refl
-copied_map f (Some x) = refl
-
 -- zones that are loaded, and one more
 pub zones_more : (opens : List ℕ → List ℕ → Type 0) (list : Option Blocklist) (arguments : List ZoneArgument) (place : ℕ) (d : ZoneArgument) (apexes : List DomainName) (apex : DomainName)
     (old between new : List (DomainName × Chain)) → place < length arguments
@@ -67,8 +57,17 @@ pub zones_alone : {S H : Type 0} (first middle last : Catalog S H) → middle �
 zones_alone {S} {H} first middle last so_far one = one ∙ ap (λ (m : Catalog S H). record m { zones = last.zones }) so_far
 
 -- journals that are opened, and one more
-pub journals_more : {D : Type 0} (disks : DiskGhosts D) (arguments : List ZoneArgument) (place : ℕ) (d : ZoneArgument) (old between new : List (DomainName × Chain))
-    → place < length arguments → AreJournalled disks (take place arguments) old between → IsJournalledBy disks (get_or arguments place d) between new
-    → AreJournalled disks (take (place + 1) arguments) old new
-journals_more disks arguments place d old between new inside so_far one =
-    subst (λ (l : List ZoneArgument). AreJournalled disks l old new) (sym (take_more arguments place d inside)) (journals.more (get_or arguments place d) so_far one)
+pub journals_more : {D : Type 0} (disks : DiskGhosts D) (arguments : List ZoneArgument) (place : ℕ) (d : ZoneArgument) (opened : List Journalled) (one : Journalled)
+    (old between new : List (DomainName × Chain)) → place < length arguments → AreJournalled disks (take place arguments) (apexes_of opened) old between
+    → IsJournalledBy disks (get_or arguments place d) one.apex between new
+    → AreJournalled disks (take (place + 1) arguments) (apexes_of (opened ++ one ∷ [])) old new
+journals_more disks arguments place d opened one old between new inside so_far is =
+    subst (λ (l : List ZoneArgument). AreJournalled disks l (apexes_of (opened ++ one ∷ [])) old new) (sym (take_more arguments place d inside))
+    (subst (λ (names : List DomainName). AreJournalled disks (take place arguments ++ get_or arguments place d ∷ []) names old new)
+    (sym (map-append (λ (it : Journalled). it.apex) opened (one ∷ []))) (journals.more (get_or arguments place d) one.apex so_far is))
+
+-- apexes of zones with journals, and one more
+pub apexes_more : (journals : List Journalled) (i : ℕ) (journal : Journalled) → i < length journals → journal ≡ get_or journals i journal
+    → apexes_of (take (i + 1) journals) ≡ apexes_of (take i journals) ++ journal.apex ∷ []
+apexes_more journals i journal within is =
+    ap (λ (l : List Journalled). apexes_of l) (take_more journals i journal within ∙ ap (λ (it : Journalled). take i journals ++ it ∷ []) (sym is)) ∙ map-append (λ (it : Journalled). it.apex) (take i journals) (journal ∷ [])

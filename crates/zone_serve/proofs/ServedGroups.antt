@@ -11,8 +11,9 @@ use Rattle.zone_serve.specs.Groups.{Begun, EachServed, GroupServed, contents}
 use Rattle.zone_serve.specs.Groups.EachServed.{more}
 use Rattle.zone_serve.specs.Groups.GroupServed.{as_lines, as_one}
 use Rattle.signed_server.specs.KeyedServers.{KeyedServer, keyed_of, over}
-use Rattle.zone_serve.specs.Served.{LineServed, Stays}
-use Rattle.zone_serve.proofs.Servers.{same_service}
+use Rattle.server.specs.Serving.{Stays}
+use Rattle.zone_serve.specs.Served.{LineServed}
+use Rattle.server.proofs.Streams.{same_keyed}
 
 true_is_false : false ≡ true → ⊥
 true_is_false is = subst (λ (b : Bool). if_true b) (sym is) tt
@@ -52,17 +53,17 @@ module _ {S H : Type 0} (handler : Ghosts H) (signature_for : S → Signer) (fir
       subst (λ (l : List (List ℕ)). EachServed (keyed_of handler signature_for first) l more_written last.server.catalog.zones) (sym (contents_more lines place line inside is))
       (subst (λ (w : List ℕ). EachServed (keyed_of handler signature_for first) (contents (take place lines) ++ line.items ∷ []) w last.server.catalog.zones) (sym appended)
       (more (contents (take place lines)) written line.items back tells so_far
-      (subst (λ (s : KeyedServer H). LineServed s line.items back last.server.catalog.zones tells) (same_service handler signature_for first middle stays) served)))
+      (subst (λ (s : KeyedServer H). LineServed s line.items back last.server.catalog.zones tells) (same_keyed handler signature_for first middle stays) served)))
 
 module _ {S H : Type 0} (handler : Ghosts H) (signature_for : S → Signer) (begins settles : List (DomainName × List H) → List (DomainName × List H) → Type 0)
     (first held : SignedServer S H) (stays : Stays first held) (lines : List (List ℕ)) (written : List ℕ) where
   pub settled : (ahead zones : List (DomainName × List H)) → Begun begins first.server.catalog.zones held.server.catalog.zones true → EachServed (keyed_of handler signature_for held) lines written ahead → settles ahead zones
       → GroupServed begins settles (keyed_of handler signature_for first) lines written zones
   settled ahead zones begun served written_out =
-      as_one begun (subst (λ (s : KeyedServer H). EachServed s lines written ahead) (same_service handler signature_for first held stays) served) written_out
+      as_one begun (subst (λ (s : KeyedServer H). EachServed s lines written ahead) (same_keyed handler signature_for first held stays) served) written_out
 
   pub as_ever : (zones : List (DomainName × List H)) → Begun begins first.server.catalog.zones held.server.catalog.zones false → EachServed (keyed_of handler signature_for held) lines written zones
       → GroupServed begins settles (keyed_of handler signature_for first) lines written zones
   as_ever zones same served =
       as_lines (subst (λ (s : KeyedServer H). EachServed s lines written zones)
-      (same_service handler signature_for first held stays ∙ ap (over (keyed_of handler signature_for first)) same) served)
+      (same_keyed handler signature_for first held stays ∙ ap (over (keyed_of handler signature_for first)) same) served)

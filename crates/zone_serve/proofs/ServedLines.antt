@@ -10,9 +10,10 @@ use Rattle.hickory_base.specs.declared.zone_store.handler.ZoneHandler.{Ghosts}
 use Rattle.zone_serve.specs.Groups.{GroupServed, LinesServed, NextLines}
 use Rattle.zone_serve.specs.Groups.LinesServed.{more, none}
 use Rattle.signed_server.specs.KeyedServers.{KeyedServer, keyed_of}
-use Rattle.zone_serve.specs.Served.{AreLines, NextLine, Stays}
+use Rattle.server.specs.Serving.{Stays}
+use Rattle.zone_serve.specs.Served.{AreLines, NextLine}
 use Rattle.signed_server.specs.declared.service.SignedServer.{SignedServer}
-use Rattle.zone_serve.proofs.Servers.{same_service}
+use Rattle.server.proofs.Streams.{same_keyed}
 
 -- What was read of a known input is its next line.
 pub next_known : (old new : Option (List ℕ)) (line : List ℕ) (count : ℕ) → ¬ (count ≡ 0) → length line ≡ count → IfSome old (λ xs. line ≡ take_through 10 xs) → DropsThrough old new 10
@@ -98,7 +99,7 @@ module _ {H : Type 0} (begins settles : List (DomainName × List H) → List (Do
             at,
             lines_behind input lines rest (line ∷ group) left are those,
             more lines (line ∷ group) written back before
-                (subst (λ (s : KeyedServer H). GroupServed begins settles s (line ∷ group) back last.server.catalog.zones) (same_service handler signature_for first middle stays) served),
+                (subst (λ (s : KeyedServer H). GroupServed begins settles s (line ∷ group) back last.server.catalog.zones) (same_keyed handler signature_for first middle stays) served),
             Appends-trans held kept after written back holds appends,
           )
 

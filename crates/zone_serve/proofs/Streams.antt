@@ -8,10 +8,11 @@ use Rattle.wire_names.specs.rr.domain.DomainName.{DomainName}
 use Rattle.hickory_catalog.specs.replies.Signing.{Signer}
 use Rattle.hickory_base.specs.declared.zone_store.handler.ZoneHandler.{Ghosts}
 use Rattle.signed_server.specs.KeyedServers.{KeyedServer, keyed_of}
-use Rattle.zone_serve.specs.Served.{BecomesOf, NextServed, Stays, StreamServed, more}
+use Rattle.server.specs.Serving.{Stays}
+use Rattle.zone_serve.specs.Served.{BecomesOf, NextServed, StreamServed, more}
 use Rattle.hickory_server.specs.declared.server.answer.Answer.TheVariants.{Replies}
 use Rattle.signed_server.specs.declared.service.SignedServer.{SignedServer}
-use Rattle.zone_serve.proofs.Servers.{same_service}
+use Rattle.server.proofs.Streams.{same_keyed}
 
 module _ {S H : Type 0} (handler : Ghosts H) (signature_for : S → Signer) (address : IpAddr) (first middle last : SignedServer S H) (stays : Stays first middle) where
   -- One more message is served, over the zones as those before it left them.
@@ -20,7 +21,7 @@ module _ {S H : Type 0} (handler : Ghosts H) (signature_for : S → Signer) (add
       → StreamServed (keyed_of handler signature_for first) address (read ++ frame) (written ++ frames) last.server.catalog.zones
   stream_more read written frame frames served (bytes, is_frame, message, came, replies, answered, are_frames) =
       more read written frame frames served is_frame came
-      (subst (λ (s : KeyedServer H). BecomesOf s message (Replies replies) last.server.catalog.zones) (same_service handler signature_for first middle stays) answered) are_frames
+      (subst (λ (s : KeyedServer H). BecomesOf s message (Replies replies) last.server.catalog.zones) (same_keyed handler signature_for first middle stays) answered) are_frames
 
   -- At the end of the stream there is no more.
   pub stream_end : (old between new holds held kept : Option (List ℕ)) (read written frame frames : List ℕ) → StreamServed (keyed_of handler signature_for first) address read written middle.server.catalog.zones

@@ -1,20 +1,19 @@
 -- What the catalog has that arguments ask for. Which bytes the files of these names have is a relation of names and bytes:
 -- no contract can say what a disk holds.
-use Rattle.std.specs.Prelude.{◌≡◌, ◌≢◌, ◌∷◌, ◌<◌, ◌++◌, Bool, All, IsTrue, [], ℕ, List, Option, Some, None}
-use Rattle.std.specs.List.{AllZip, list_any}
+use Rattle.std.specs.Prelude.{◌≡◌, ◌≢◌, ◌∷◌, ◌<◌, ◌++◌, [], ℕ, List, Option, Some, None}
+use Rattle.std.specs.List.{AllZip}
 use Rattle.wire_names.specs.rr.domain.DomainName.{DomainName}
-use Rattle.wire_names.specs.rr.domain.NameOrder.{name_eq}
 use Rattle.hickory_base.specs.zone_store.ZoneAnswers.{MemoryZone}
 use Rattle.hickory_store.specs.blocklist.BlockAnswers.{Blocklist}
 use Rattle.name_lists.specs.Adding.{AddsList}
 use Rattle.name_lists.specs.Counts.{Counts}
 use Rattle.server_limits.specs.Access.{Network}
-use Rattle.served_zones.specs.Given.{AreGiven}
 use Rattle.served_zones.specs.Grants.{IsGrantOf}
 use Rattle.served_zones.specs.ServedZones.{AddsLists, Chain, IsEmptyList, IsLoadedAs, IsZoneOfFiles}
 use Rattle.served_zones.specs.declared.grants.Grant.{Grant}
 use Rattle.tsig.specs.declared.keys.Key.{Key}
 use Rattle.served_keys.specs.ServedKeys.{AreKeysOfFile, all_networks}
+use Rattle.server.specs.Updates.{AreServed}
 use Rattle.serve_options.specs.Arguments.{files_of}
 use Rattle.serve_options.specs.declared.arguments.Settings.{Settings}
 use Rattle.serve_options.specs.declared.arguments.UpdateArgument.{UpdateArgument}
@@ -23,10 +22,6 @@ use Rattle.serve_options.specs.declared.arguments.ZoneArgument.{ZoneArgument}
 -- The value of `--allow-update` is a rule of a zone. Its key is one of these.
 abbrev pub IsGrantBy : List Key → UpdateArgument → Grant → Type 0
 IsGrantBy keys argument grant = IsGrantOf keys argument.zone.now argument.rule.now grant
-
--- a zone of this name was loaded, letter case aside
-abbrev pub is_loaded : List DomainName → DomainName → Bool
-is_loaded apexes apex = list_any (λ it. name_eq it apex) apexes
 
 module _ (opens : List ℕ → List ℕ → Type 0) where
   -- The list in the file of this name is put on a list of blocked names. It gives a name.
@@ -70,8 +65,7 @@ module _ (opens : List ℕ → List ℕ → Type 0) where
     pub are_loaded : AreLoaded list settings.zones.items apexes old loaded
     pub grants : List Grant
     pub are_grants : AllZip (IsGrantBy keys) settings.updates.items grants
-    pub of_zones : All (λ grant. IsTrue (is_loaded apexes grant.apex)) grants
-    pub are_given : AreGiven keys grants apexes loaded new
+    pub are_served : AreServed keys grants apexes loaded new
 
   -- The keys: none if there is no file of keys, else those of the file of this name.
   abbrev pub AreKeysOf : Option (List ℕ) → List Key → Type 0

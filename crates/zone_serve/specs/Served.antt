@@ -8,7 +8,7 @@ use Rattle.wire_messages.specs.declared.protocol.Protocol.{Protocol}
 use Rattle.wire_messages.specs.declared.protocol.Protocol.TheVariants.{Tcp, Udp}
 use Rattle.wire_names.specs.rr.domain.DomainName.{DomainName}
 use Rattle.hickory_server.specs.declared.server.serve.Incoming.{Incoming}
-use Rattle.zone_serve.specs.Frames.{AreFrames, IsFrame}
+use Rattle.server.specs.Frames.{AreFrames, IsFrame}
 use Rattle.zone_serve.specs.Lines.{IsLineOf, answer_lines}
 use Rattle.hickory_server.specs.declared.server.answer.Answer.{Answer}
 use Rattle.hickory_server.specs.declared.server.answer.Answer.TheVariants.{Replies}
@@ -16,19 +16,11 @@ use Rattle.zone_serve.specs.declared.lines.LineMessage.{LineMessage}
 use Rattle.hickory_server.specs.server.ServedBy.{arrival}
 use Rattle.signed_server.specs.KeyedServers.{KeyedServer, over}
 use Rattle.signed_server.specs.ServedWithKeys.{ServedWithKeys}
-use Rattle.signed_server.specs.declared.service.SignedServer.{SignedServer}
 
 -- what becomes of a message, and the zones after it
 abbrev pub BecomesOf : {H : Type 0} → KeyedServer H → Incoming → Answer → List (DomainName × List H) → Type 0
 BecomesOf service message answer zones =
     ServedWithKeys service (arrival message.bytes.items message.src message.protocol message.now) answer zones
-
--- Nothing of a server changes from call to call but its zones.
-pub record Stays {S H : Type 0} (first last : SignedServer S H) : Type 0 where
-  pub keys : last.keys ≡ first.keys
-  pub transfer_keys : last.transfer_keys ≡ first.transfer_keys
-  pub rules : last.server.rules ≡ first.server.rules
-  pub others : last.server.catalog ≡ record first.server.catalog { zones = last.server.catalog.zones }
 
 -- The message came over this transport, from this address, with these bytes, at some moment.
 pub record IsFrom (protocol : Protocol) (address : IpAddr) (bytes : List ℕ) (message : Incoming) : Type 0 where

@@ -2,14 +2,52 @@
 
 use crate::frames::StreamFault;
 use crate::journals::JournalFileFault;
-use crate::keys::KeyFileFault;
-use crate::lists::ListFault;
-use crate::zone_fault::ZoneFileFault;
-use served_keys::names::KeyNameFault;
-use served_zones::grants::GrantFault;
+use hickory_server::zone_text::FileRefusal;
+use server::settings::SettingFault;
 use std::alloc::{AllocError, AllocFailed};
 use std::io;
 use thiserror::Error;
+
+/// Why a file is not taken.
+#[derive(Clone, Copy, Debug, PartialEq, Eq, Error)]
+pub enum FileFault {
+    /// It cannot be read.
+    #[error("{0}")]
+    File(FileRefusal),
+    /// It is not a file of this kind.
+    #[error("{0}")]
+    Setting(SettingFault),
+    /// A file that it includes has a fault, which was reported.
+    #[error("a file that it includes has a fault")]
+    Included,
+    /// An allocation failed.
+    #[error("no memory")]
+    Memory,
+}
+
+impl From<FileRefusal> for FileFault {
+    fn from(e: FileRefusal) -> FileFault {
+        match e {
+            FileRefusal::Memory => FileFault::Memory,
+            other => FileFault::File(other),
+        }
+    }
+}
+
+impl From<SettingFault> for FileFault {
+    fn from(e: SettingFault) -> FileFault {
+        match e {
+            SettingFault::Memory => FileFault::Memory,
+            other => FileFault::Setting(other),
+        }
+    }
+}
+
+impl From<AllocError> for FileFault {
+    fn from(_e: AllocError) -> FileFault {
+        FileFault::Memory
+    }
+}
 
 /// Why the program ends before its input does. An argument is named by its place, and a file by its place among those
 /// of its option.
@@ -18,33 +56,13 @@ pub enum Fault {
     /// An argument is no text.
     #[error("an argument is not UTF-8")]
     NotUtf8,
-    /// The text before the `=` of `--zone` is no name.
-    #[error("not the name of a zone")]
-    ZoneName {
-        /// Which argument it is; the first is 1.
-        place: usize,
-    },
-    /// The value of `--nsid` has more bytes than an option holds (RFC 6891 section 6.1.2).
-    #[error("the identifier is too long")]
-    LongIdentifier {
-        /// Which argument it is; the first is 1.
-        place: usize,
-    },
-    /// The value of `--allow-transfer-key` is the name of no key.
+    /// The value of an option is not what the option takes.
     #[error("{fault}")]
-    TransferKey {
+    Argument {
         /// Which argument it is; the first is 1.
         place: usize,
         /// What is wrong with it.
-        fault: KeyNameFault,
-    },
-    /// The value of `--allow-update` is no rule.
-    #[error("{fault}")]
-    Update {
-        /// Which argument it is; the first is 1.
-        place: usize,
-        /// What is wrong with it.
-        fault: GrantFault,
+        fault: SettingFault,
     },
     /// The text before the `=` of `--allow-update` is the name of no zone that is served.
     #[error("there is no --zone of this name")]
@@ -55,12 +73,6 @@ pub enum Fault {
     /// The text before the `=` of `--journal` is the name of no zone that takes updates.
     #[error("there is no --allow-update of this zone")]
     JournalZone {
-        /// Which argument it is; the first is 1.
-        place: usize,
-    },
-    /// Two journals are given for one zone.
-    #[error("the zone has a journal already")]
-    JournalTwice {
         /// Which argument it is; the first is 1.
         place: usize,
     },
@@ -90,7 +102,7 @@ pub enum Fault {
         /// Which file of a zone it is.
         place: usize,
         /// What is wrong with it.
-        fault: ZoneFileFault,
+        fault: FileFault,
     },
     /// A list of blocked names is not taken.
     #[error("{fault}")]
@@ -98,13 +110,13 @@ pub enum Fault {
         /// Which list it is.
         place: usize,
         /// What is wrong with it.
-        fault: ListFault,
+        fault: FileFault,
     },
     /// The file of keys is not taken.
     #[error("{fault}")]
     Keys {
         /// What is wrong with it.
-        fault: KeyFileFault,
+        fault: FileFault,
     },
     /// The peer's address may not use the server.
     #[error("denied")]
@@ -164,9 +176,8 @@ impl Fault {
         match self {
             Fault::Denied | Fault::Response | Fault::Unreadable | Fault::Line { .. } => 1,
             Fault::Stream(StreamFault::Partial | StreamFault::TooLong) => 1,
-            Fault::NotUtf8 | Fault::ZoneName { .. } | Fault::LongIdentifier { .. } => 2,
-            Fault::TransferKey { .. } | Fault::Update { .. } | Fault::UpdateZone { .. } => 2,
-            Fault::JournalZone { .. } | Fault::JournalTwice { .. } | Fault::ZoneTwice { .. } => 2,
+            Fault::NotUtf8 | Fault::Argument { .. } | Fault::UpdateZone { .. } => 2,
+            Fault::JournalZone { .. } | Fault::ZoneTwice { .. } => 2,
             Fault::Memory | Fault::Stream(StreamFault::Memory) => 3,
             Fault::Clock | Fault::Read | Fault::Write => 4,
             Fault::Stream(StreamFault::Read) => 4,
@@ -179,11 +190,17 @@ impl Fault {
     /// The argument that it is of, if it is of one; the first is 1.
     pub fn argument(self) -> Option<usize> {
         match self {
-            Fault::ZoneName { place } | Fault::LongIdentifier { place } => Some(place),
-            Fault::TransferKey { place, .. } | Fault::Update { place, .. } => Some(place),
-            Fault::UpdateZone { place } | Fault::JournalZone { place } => Some(place),
-            Fault::JournalTwice { place } | Fault::ZoneTwice { place } => Some(place),
+            Fault::Argument { place, .. } | Fault::UpdateZone { place } => Some(place),
+            Fault::JournalZone { place } | Fault::ZoneTwice { place } => Some(place),
             _ => None,
+        }
+    }
+
+    /// The fault of the value of an option, which is the argument at this place.
+    pub fn of_argument(place: usize, fault: SettingFault) -> Fault {
+        match fault {
+            SettingFault::Memory => Fault::Memory,
+            fault => Fault::Argument { place, fault },
         }
     }
 

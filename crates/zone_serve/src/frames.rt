@@ -2,7 +2,8 @@
 
 ghost use Rattle.std.specs.Prelude.{◌≡◌, ◌<◌, IfOk, None, OnOk, Some, if◌then◌else◌, length};
 ghost use Rattle.std.specs.Io.KnownBytes.{Consumes, IsAtEnd};
-ghost use Rattle.zone_serve.specs.Frames.{Filled, GivesNext, IsFrame};
+ghost use Rattle.server.specs.Frames.{IsFrame};
+ghost use Rattle.zone_serve.specs.Frames.{Filled, GivesNext};
 
 use std::alloc::{AllocError, AllocFailed, Global};
 use std::io::{self, Read};

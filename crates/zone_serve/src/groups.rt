@@ -5,8 +5,9 @@ ghost use Rattle.std.specs.Prelude.{◌≡◌, ◌++◌, [], ℕ, List, IfOk, If
 ghost use Rattle.std.specs.Io.KnownBytes.{Appends};
 ghost use Rattle.wire_names.specs.rr.domain.DomainName.{DomainName};
 ghost use Rattle.zone_serve.specs.Groups.{EachServed, GroupServed, LinesServed, NextLines, contents};
+ghost use Rattle.server.specs.Serving.{Stays};
 ghost use Rattle.signed_server.specs.KeyedServers.{keyed_of};
-ghost use Rattle.zone_serve.specs.Served.{AreLines, LineServed, Stays};
+ghost use Rattle.zone_serve.specs.Served.{AreLines, LineServed};
 
 use crate::fault::Fault;
 use crate::lines::{BAD_LINE, answer_lines, read_line};

@@ -1,6 +1,7 @@
 //! Zones with journals, which hold the updates of lines that are at hand together.
 
 ghost use Rattle.std.specs.Prelude.{◌≡◌, IfOk, IsTrue};
+ghost use Rattle.zone_serve.specs.Journals.{apexes_of};
 
 use crate::fault::Fault;
 use crate::groups::Holder;
@@ -31,7 +32,8 @@ impl JournalHolder {
         journals: &[Journalled<'_>],
         in_groups: bool,
     ) -> Result<JournalHolder, AllocError>
-        ensures { IfOk result (λ holder. holder.in_groups ≡ in_groups) }
+        ensures apexes { IfOk result (λ holder. holder.apexes.items ≡ apexes_of journals.now) }
+        ensures groups { IfOk result (λ holder. holder.in_groups ≡ in_groups) }
     {
         let mut apexes = Vec::new(alloc);
         for journal in journals {

@@ -3,13 +3,15 @@
 ghost use Rattle.std.specs.Prelude.{◌≡◌, ◌≢◌, ◌↔◌, [], IfOk};
 ghost use Rattle.served_zones.specs.ServedZones.{IsZoneOfFiles, loaded};
 ghost use Rattle.served_zones.specs.declared.zone_files.ZoneFault.TheVariants.{Memory as NoMemory};
+ghost use Rattle.server.specs.declared.settings.SettingFault.TheVariants.{Zone as OfZone};
 ghost use Rattle.zone_serve.specs.Catalogs.{IsZoneAt};
-ghost use Rattle.zone_serve.specs.declared.zone_fault.ZoneFileFault.TheVariants as told;
+ghost use Rattle.zone_serve.specs.declared.fault.FileFault.TheVariants as told;
 
-use crate::zone_fault::ZoneFileFault;
+use crate::fault::FileFault;
 use hickory_server::proto::Name;
 use hickory_server::zone_text::FileOpener;
 use served_zones::zone_files::{RefusedFile, ZoneFault, zone_with_files};
+use server::settings::SettingFault;
 use sqlite_disk::Disk;
 use std::alloc::Global;
 use std::str;
@@ -18,17 +20,17 @@ use zones::Zone;
 
 /// The fault for which a zone file, or a file that it includes, is refused. One of an included file is reported on the
 /// standard error, by the name of that file.
-fn fault_of_refused<R: Eprint>(rt: &R, refused: &RefusedFile) -> ZoneFileFault
+fn fault_of_refused<R: Eprint>(rt: &R, refused: &RefusedFile) -> FileFault
     ensures memory { result ≡ told.Memory ↔ refused.now.fault ≡ NoMemory }
-    ensures own { refused.now.file ≡ [] → refused.now.fault ≢ NoMemory → result ≡ told.Zone refused.now.fault }
+    ensures own { refused.now.file ≡ [] → refused.now.fault ≢ NoMemory → result ≡ told.Setting (OfZone refused.now.fault) }
 {
     match (refused.fault, str::from_utf8(refused.file.as_slice())) {
-        (ZoneFault::Memory, _) => ZoneFileFault::Memory,
+        (ZoneFault::Memory, _) => FileFault::Memory,
         (fault, Ok(name)) if !name.is_empty() => {
             let _ = eprintln!(rt; "zone_serve: {name}:{fault}");
-            ZoneFileFault::Included
+            FileFault::Included
         }
-        (fault, _) => ZoneFileFault::Zone(fault),
+        (fault, _) => FileFault::Setting(SettingFault::Zone(fault)),
     }
 }
 
@@ -39,7 +41,7 @@ fn zone_with<R: Eprint + Alloc<A = Global>, O: FileOpener, D: Disk + Drop>(
     apex: &Name,
     bytes: &[u8],
     files: &O,
-) -> Result<Zone<TsigVerifier, D>, ZoneFileFault>
+) -> Result<Zone<TsigVerifier, D>, FileFault>
     ensures zone { IfOk result (λ it. it ≡ loaded it.updatable.zone) }
     ensures read { IfOk result
         (λ it. IsZoneOfFiles (O.opens files.now) bytes.now apex.now it.updatable.zone) }
@@ -57,7 +59,7 @@ pub fn zone_of<R: Eprint + Alloc<A = Global>, O: FileOpener, D: Disk + Drop>(
     files: &O,
     apex: &Name,
     file: &str,
-) -> Result<Zone<TsigVerifier, D>, ZoneFileFault>
+) -> Result<Zone<TsigVerifier, D>, FileFault>
     ensures zone { IfOk result (λ it. it ≡ loaded it.updatable.zone) }
     ensures read { IfOk result (λ it. IsZoneAt (O.opens files.now) file.now apex.now it.updatable.zone) }
 {

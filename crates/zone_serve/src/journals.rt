@@ -3,7 +3,7 @@
 ghost use Rattle.std.specs.Prelude.{◌≡◌, ◌↔◌, IfOk, IsTrue, OnOk};
 ghost use Rattle.sqlite_disk.specs.Disk.{Only};
 ghost use Rattle.served_zones.specs.ServedZones.{IsApexText};
-ghost use Rattle.zone_serve.specs.Journals.{AreJournalled, HasOpened, IsJournalledBy};
+ghost use Rattle.zone_serve.specs.Journals.{AreJournalled, HasOpened, IsJournalledBy, apexes_of};
 ghost use Rattle.zone_serve.specs.Telling.{IsDue};
 ghost use Rattle.wire_names.specs.rr.domain.DomainName.{DomainName};
 ghost use Rattle.wire_names.specs.rr.domain.NameOrder.{lower_name};
@@ -12,7 +12,7 @@ use crate::damage::{Damage, find_damage, is_none_at};
 use crate::fault::Fault;
 use crate::files::fault_of;
 use crate::groups::Watch;
-use crate::server::apex_of;
+use crate::rules::apex_of;
 use crate::serving::now;
 use hickory_server::proto::LowerName;
 use hickory_server::zone_text::FileRefusal;
@@ -21,6 +21,7 @@ use served_zones::handler::{Handler, Zones};
 use served_zones::journals::{
     JournalFault, JournalState, Opened, compact_due, has_updates, open_journal,
 };
+use server::settings::SettingFault;
 use signed_server::LeftToServer;
 use sqlite_disk::{Disk, Files as TwoFiles};
 use sqlite_std_file::{File, OpenError, Unknown, open};
@@ -108,7 +109,9 @@ pub struct Journalled<'a> {
 
 impl<'a> Journalled<'a> {
     /// The name of its apex.
-    pub fn apex(&self) -> &LowerName {
+    pub fn apex(&self) -> &LowerName
+        ensures { result.now ≡ self.now.apex }
+    {
         &self.apex
     }
 }
@@ -170,7 +173,7 @@ fn apex_for<D: Disk + Drop>(
     let place = argument.place;
     let apex = LowerName::new(alloc, &apex_of(alloc, argument.name, place)?)?;
     if earlier.iter().any(|it| it.apex == apex) {
-        return Err(Fault::JournalTwice { place });
+        return Err(Fault::of_argument(place, SettingFault::JournalTwice));
     }
     if !has_updates(zones, &apex)? {
         return Err(Fault::JournalZone { place });
@@ -207,7 +210,8 @@ fn open_one<'a, R: Clock + Files + Eprint + Alloc<A = Global>, D: Disk + Drop, F
     zones: &mut Zones<D>,
     earlier: &[Journalled<'_>],
 ) -> Result<Journalled<'a>, Fault>
-    ensures opened { OnOk result (IsJournalledBy D.Disk argument.entry zones.old.zones zones.new.zones) }
+    ensures opened { IfOk result (λ journal.
+        IsJournalledBy D.Disk argument.entry journal.apex zones.old.zones zones.new.zones) }
     ensures others { zones.new ≡ record zones.old { zones = zones.new.zones } }
 {
     let alloc = rt.alloc();
@@ -244,7 +248,8 @@ pub fn open_journals<
     arguments: &[ZoneArgument<'a>],
     zones: &mut Zones<D>,
 ) -> Result<Vec<Journalled<'a>>, Fault>
-    ensures opened { OnOk result (AreJournalled D.Disk arguments.now zones.old.zones zones.new.zones) }
+    ensures opened { IfOk result (λ journals.
+        AreJournalled D.Disk arguments.now (apexes_of journals.items) zones.old.zones zones.new.zones) }
     ensures others { zones.new ≡ record zones.old { zones = zones.new.zones } }
 {
     let mut opened = Vec::new(rt.alloc());
@@ -258,9 +263,9 @@ pub fn open_journals<
 /// Compacts journals that have become long, and reports those that take no updates any more, each at most once a
 /// minute.
 #[derive(Drop)]
-pub struct JournalWatch<'r, 'a> {
+pub struct JournalWatch<'r, 'a, R> {
     /// The runtime.
-    pub rt: &'r HostRuntime,
+    pub rt: &'r R,
     /// The zones that have journals.
     pub journals: Vec<Journalled<'a>>,
 }
@@ -305,7 +310,8 @@ fn look_after<R: Clock + Eprint + Alloc<A = Global>, D: Disk + Drop>(
     }
 }
 
-impl<'r, 'a, D: Disk + Drop> Watch<LeftToServer, Handler<D>> for JournalWatch<'r, 'a> {
+impl<R: Clock + Eprint + Alloc<A = Global>, D: Disk + Drop> Watch<LeftToServer, Handler<D>>
+    for JournalWatch<'_, '_, R> {
     fn after_lines(&mut self, catalog: &mut Zones<D>) {
         for place in 0..self.journals.len() {
             if let Some(journal) = self.journals.get_mut(place) {

@@ -4,6 +4,7 @@ ghost use Rattle.std.specs.Prelude.{◌≡◌, ◌++◌, ◌∷◌, [], IfOk, If
 ghost use Rattle.hex.specs.Hex.{decode_of};
 ghost use Rattle.wire_names.specs.HexLines.{hex_lines};
 ghost use Rattle.zone_serve.specs.Lines.{AreWords, IsLineOf, IsTransport, answer_lines};
+ghost use Rattle.zone_serve.specs.Peers.{IsPeerText};
 
 use crate::peer;
 use hickory_server::proto::{Octets, Protocol};
@@ -60,7 +61,7 @@ fn message_of(
     digits: &str,
 ) -> Result<Option<LineMessage>, AllocError>
     ensures { IfOk result (λ message. IfSome message (λ it. IsTransport transport.now it.protocol ×
-        (decode_of digits.now ≡ Ok it.bytes.items))) }
+        IsPeerText address.now it.address × (decode_of digits.now ≡ Ok it.bytes.items))) }
 {
     let (Some(protocol), Some(address)) = (transport_named(transport), peer::address(address))
     else {

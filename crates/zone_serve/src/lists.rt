@@ -4,43 +4,14 @@ ghost use Rattle.std.specs.Prelude.{◌≡◌, ◌<◌, IfOk, OnOk, map, option_
 ghost use Rattle.name_lists.specs.Adding.{AddsList};
 ghost use Rattle.zone_serve.specs.Catalogs.{AddsFile, AddsFiles, IsListOf};
 
-use crate::fault::Fault;
+use crate::fault::{Fault, FileFault};
 use hickory_server::store::blocklist::BlocklistZoneHandler;
-use hickory_server::zone_text::{FileOpener, FileRefusal};
+use hickory_server::zone_text::FileOpener;
 use name_lists::ListReport;
 use served_zones::lists;
-use std::alloc::{AllocError, Global};
+use server::settings::SettingFault;
+use std::alloc::Global;
 use std::rc::Rc;
-use thiserror::Error;
-
-/// Why a list of blocked names is not taken.
-#[derive(Clone, Copy, Debug, PartialEq, Eq, Error)]
-pub enum ListFault {
-    /// Its file cannot be read.
-    #[error("{0}")]
-    File(FileRefusal),
-    /// It blocks nothing: it is empty, or another kind of file.
-    #[error("no line of the list gives a name")]
-    NoNames,
-    /// Memory was refused.
-    #[error("no memory")]
-    Memory,
-}
-
-impl From<FileRefusal> for ListFault {
-    fn from(e: FileRefusal) -> ListFault {
-        match e {
-            FileRefusal::Memory => ListFault::Memory,
-            other => ListFault::File(other),
-        }
-    }
-}
-
-impl From<AllocError> for ListFault {
-    fn from(_e: AllocError) -> ListFault {
-        ListFault::Memory
-    }
-}
 
 /// Adds the names that the lines of a text give to those that are blocked, if one gives a name, and says what
 /// became of the lines.
@@ -48,7 +19,7 @@ fn add_text(
     alloc: Global,
     list: &mut BlocklistZoneHandler,
     bytes: &[u8],
-) -> Result<ListReport, ListFault>
+) -> Result<ListReport, FileFault>
     ensures ok { IfOk result (λ report. AddsList bytes.now list.old.entries list.new.entries report) }
     ensures some { IfOk result (λ report. 0 < report.taken) }
     ensures others { list.new ≡ record list.old { entries = list.new.entries } }
@@ -57,7 +28,7 @@ fn add_text(
     if report.taken() > 0 {
         Ok(report)
     } else {
-        Err(ListFault::NoNames)
+        Err(FileFault::Setting(SettingFault::NoNames))
     }
 }
 
@@ -67,7 +38,7 @@ fn add_list<O: FileOpener>(
     opener: &O,
     list: &mut BlocklistZoneHandler,
     file: &str,
-) -> Result<ListReport, ListFault>
+) -> Result<ListReport, FileFault>
     ensures { OnOk result (AddsFile (O.opens opener.now) file.now list.old list.new) }
 {
     let bytes = opener.open(alloc, file.as_bytes())?;
@@ -108,7 +79,7 @@ fn add_lists<R: Eprint + Alloc<A = Global>, O: FileOpener>(
     for place in 0..files.len() {
         match add_list(rt.alloc(), opener, list, files[place]) {
             Ok(report) => tell_of_skipped(rt, files[place], &report),
-            Err(ListFault::Memory) => return Err(Fault::Memory),
+            Err(FileFault::Memory) => return Err(Fault::Memory),
             Err(fault) => return Err(Fault::List { place, fault }),
         }
     }

@@ -8,13 +8,11 @@
 //! if input, output or clock fail, 5 if a file is not taken, and 6 if updates at hand are not written.
 #![tactic(auto)]
 
-ghost use Rattle.std.specs.Prelude.{◌≡◌, ◌++◌, [], IfOk, MatchOption, OnOk, option_map};
-ghost use Rattle.std.specs.List.{AllZip, flat_map};
-ghost use Rattle.server_limits.specs.Access.{SameNetworks};
+ghost use Rattle.std.specs.Prelude.{◌≡◌, [], IfOk, OnOk, option_map};
 ghost use Rattle.served_zones.specs.ServedZones.{IsLoadedAs};
-ghost use Rattle.served_keys.specs.ServedKeys.{IsKeyNamed, all_networks, parts_of};
-ghost use Rattle.serve_options.specs.Arguments.{transfer_keys_of};
-ghost use Rattle.zone_serve.specs.Catalogs.{AreKeysOf, AreLoaded, AreZonesOf, IsZoneAt, denied_beside};
+ghost use Rattle.zone_serve.specs.Catalogs.{AreLoaded, AreZonesOf, IsZoneAt};
+ghost use Rattle.zone_serve.specs.Peers.{IsPeerText};
+ghost use Rattle.zone_serve.specs.Program.{IsServedBy, IsServerOf};
 
 mod damage;
 mod fault;
@@ -23,34 +21,32 @@ mod frames;
 mod groups;
 mod holder;
 mod included;
+mod inputs;
 mod journals;
 mod keys;
 mod lines;
 mod lists;
 mod peer;
-mod server;
+mod rules;
 mod serving;
 mod updates;
-mod zone_fault;
 
-use crate::fault::Fault;
+use crate::fault::{Fault, FileFault};
 use crate::files::FilesByPath;
-use crate::groups::{Holder, Watch, serve_lines};
 use crate::holder::JournalHolder;
 use crate::included::zone_of;
-use crate::journals::{JournalWatch, SystemFiles, open_journals};
-use crate::keys::{KeyFileFault, keys_of, transfer_keys_of};
+use crate::inputs::{Peer, serve_input};
+use crate::journals::{JournalFiles, JournalWatch, SystemFiles, open_journals};
+use crate::keys::{keys_of, transfer_keys_of};
 use crate::lists::blocklist;
-use crate::server::{apex_of, identifier_of, rules_of};
-use crate::serving::{serve_datagram, serve_stream};
+use crate::rules::{apex_of, identifier_of, rules_of};
 use crate::updates::{grants_of, see_zones};
-use crate::zone_fault::ZoneFileFault;
 use hickory_server::VERSION;
 use hickory_server::proto::Name;
 use hickory_server::server::Server;
 use hickory_server::store::blocklist::BlocklistZoneHandler;
 use hickory_server::store::file::ZoneError;
-use hickory_server::zone_handler::{Catalog, ZoneHandler};
+use hickory_server::zone_handler::{Catalog, ReplySigner, ZoneHandler};
 use hickory_server::zone_store::Either;
 use hickory_server::zone_text::FileOpener;
 use serve_options::arguments::{ArgumentFault, Mode, Settings, ZoneArgument};
@@ -59,15 +55,16 @@ use served_zones::chains::{chain, put_chain};
 use served_zones::grants::grant_updates;
 use served_zones::handler::{Handler, Zones};
 use served_zones::zone_files::ZoneFault;
+use server::settings::SettingFault;
 use signed_server::{LeftToServer, SignedServer};
 use sqlite_disk::Disk;
-use sqlite_std_file::File;
 use std::alloc::Global;
 use std::env::VarError;
+use std::io::{Read, Write};
 use std::net::{IpAddr, Ipv4Addr};
 use std::process::ExitCode;
 use std::rc::Rc;
-use std::rt::{Clock, Env};
+use std::rt::{Clock, Env, Files};
 use std::{env, io};
 use tsig::Keys;
 
@@ -88,30 +85,34 @@ fn tell_of_variable<R: Eprint>(rt: &R, name: &str, text: &str) -> u8 {
     2
 }
 
-/// The address of the peer in a variable of the environment, if it is set. A fault is reported, and gives the status.
-fn told_peer<R: Env + Eprint + Alloc<A = Global>>(
-    rt: &R,
-    name: &str,
-) -> Result<Option<IpAddr>, u8> {
+/// The text of a variable of the environment, if it is set. A fault is reported, and gives the status.
+fn variable<R: Env + Eprint + Alloc<A = Global>>(rt: &R, name: &str) -> Result<Option<String>, u8> {
     match env::var(rt, name) {
-        Ok(text) => match peer::address(text.as_str()) {
-            Some(address) => Ok(Some(address)),
-            None => Err(tell_of_variable(rt, name, text.as_str())),
-        },
+        Ok(text) => Ok(Some(text)),
         Err(VarError::NotPresent) => Ok(None),
         Err(VarError::NotUnicode) => Err(tell_of_variable(rt, name, "\u{fffd}")),
         Err(VarError::OutOfMemory) => Err(tell(rt, Fault::Memory)),
     }
 }
 
+/// The address that the text of a variable spells. A fault is reported, and gives the status.
+fn told_peer<R: Eprint>(rt: &R, name: &str, text: &str) -> Result<IpAddr, u8>
+    ensures { IfOk result (IsPeerText text.now) }
+{
+    match peer::address(text) {
+        Some(address) => Ok(address),
+        None => Err(tell_of_variable(rt, name, text)),
+    }
+}
+
 /// The address of the peer, as systemd gives it (`REMOTE_ADDR`), or socat (`SOCAT_PEERADDR`), and 127.0.0.1 if neither
 /// does. A fault is reported, and gives the status.
 fn peer_address<R: Env + Eprint + Alloc<A = Global>>(rt: &R) -> Result<IpAddr, u8> {
-    if let Some(address) = told_peer(rt, "REMOTE_ADDR")? {
-        return Ok(address);
+    if let Some(text) = variable(rt, "REMOTE_ADDR")? {
+        return told_peer(rt, "REMOTE_ADDR", text.as_str());
     }
-    if let Some(address) = told_peer(rt, "SOCAT_PEERADDR")? {
-        return Ok(address);
+    if let Some(text) = variable(rt, "SOCAT_PEERADDR")? {
+        return told_peer(rt, "SOCAT_PEERADDR", text.as_str());
     }
     Ok(IpAddr::V4(Ipv4Addr::LOCALHOST))
 }
@@ -134,7 +135,7 @@ fn load<R: Eprint + Alloc<A = Global>, O: FileOpener, D: Disk + Drop>(
     let apex = apex_of(rt.alloc(), argument.name, argument.place)?;
     let zone = match zone_of(rt, files, &apex, argument.file) {
         Ok(zone) => zone,
-        Err(ZoneFileFault::Memory) => return Err(Fault::Memory),
+        Err(FileFault::Memory) => return Err(Fault::Memory),
         Err(fault) => return Err(Fault::Zone { place, fault }),
     };
     let chain = chain(rt.alloc(), Either::Left(zone), list)?;
@@ -214,26 +215,7 @@ fn server_for<R: Eprint + Alloc<A = Global>, O: FileOpener, D: Disk + Drop>(
     files: &O,
     settings: &Settings<'_>,
 ) -> Result<SignedServer<LeftToServer, Handler<D>>, Fault>
-    ensures denied { IfOk result
-        (λ made. SameNetworks (denied_beside settings.now.allowed.items settings.now.denied.items)
-        made.server.rules.access.deny) }
-    ensures allowed { IfOk result
-        (λ made. SameNetworks (flat_map parts_of settings.now.allowed.items) made.server.rules.access.allow) }
-    ensures transfers_denied { IfOk result
-        (λ made. SameNetworks (settings.now.transfers_denied.items ++ all_networks) made.server.rules.transfers.deny) }
-    ensures transfers_allowed { IfOk result
-        (λ made. SameNetworks (flat_map parts_of settings.now.transfers_allowed.items)
-        made.server.rules.transfers.allow) }
-    ensures limit { IfOk result (λ made. MatchOption settings.now.max_udp (made.server.rules.max_udp ≡ 1232)
-        (λ limit. made.server.rules.max_udp ≡ limit)) }
-    ensures zones { IfOk result
-        (λ made. AreZonesOf (O.opens files.now) settings.now made.keys [] made.server.catalog.zones) }
-    ensures identifier { IfOk result
-        (λ made. made.server.catalog.nsid ≡ option_map (λ it. it.0.now) settings.now.identifier) }
-    ensures keys { IfOk result
-        (λ made. AreKeysOf (O.opens files.now) (option_map (λ it. it.now) settings.now.keys) made.keys) }
-    ensures transfer_keys { IfOk result
-        (λ made. AllZip (IsKeyNamed made.keys) (transfer_keys_of settings.now) made.transfer_keys.items) }
+    ensures { IfOk result (IsServerOf (O.opens files.now) settings.now) }
 {
     let alloc = rt.alloc();
     let keys = keys_of(alloc, files, settings.keys)?;
@@ -245,60 +227,60 @@ fn server_for<R: Eprint + Alloc<A = Global>, O: FileOpener, D: Disk + Drop>(
     Ok(signed)
 }
 
-/// Serves the standard input by a server.
-fn serve_input<
-    R: Clock + Input + Print + Alloc<A = Global>,
-    H: ZoneHandler,
-    O: Holder<LeftToServer, H>,
+/// Serves an input as the arguments say, by the files that `opener` has, and with journals in `files`: the number of
+/// the first line that is no message, if there is one.
+fn serve_settings<
+    C: Clock + Files + Eprint + Alloc<A = Global>,
+    O: FileOpener,
+    D: Disk + Drop,
+    F: JournalFiles<D>,
+    R: Read,
+    W: Write,
 >(
-    rt: &R,
-    mode: Mode,
-    address: IpAddr,
-    server: &mut SignedServer<LeftToServer, H>,
-    holder: &O,
-    watch: &mut impl Watch<LeftToServer, H>,
-) -> Result<(), Fault> {
-    let alloc = rt.alloc();
-    let mut reader = rt.reader();
-    let mut writer = io::writer(rt);
-    match mode {
-        Mode::Udp => serve_datagram(alloc, rt, server, address, &mut reader, &mut writer),
-        Mode::Tcp => serve_stream(alloc, rt, server, address, &mut reader, &mut writer),
-        Mode::Lines => match serve_lines(
-            alloc,
-            rt,
-            server,
-            &mut reader,
-            &mut writer,
-            holder,
-            watch,
-        )? {
-            Some(number) => Err(Fault::Line { number }),
-            None => Ok(()),
-        },
-    }
-}
-
-/// Opens the journals that the arguments ask for, and serves the standard input by the server.
-fn serve_with_journals(
-    rt: &HostRuntime,
+    rt: &C,
+    opener: &O,
+    files: &F,
     settings: &Settings<'_>,
     address: IpAddr,
-    server: &mut SignedServer<LeftToServer, Handler<File>>,
-) -> Result<(), Fault> {
-    let files = SystemFiles { rt };
-    let journals = open_journals(rt, &files, &settings.journals, &mut server.server.catalog)?;
+    reader: &mut R,
+    writer: &mut W,
+) -> Result<Option<u64>, Fault>
+    ensures { OnOk result (IsServedBy D.Disk ⟦<Handler<D> as ZoneHandler>⟧ ⟦<LeftToServer as ReplySigner>⟧.signature_for
+        (O.opens opener.now) settings.now address (record {
+          input = R.remaining reader.old;
+          left = R.remaining reader.new;
+          output = W.contents writer.old;
+          filled = W.contents writer.new;
+        })) }
+{
+    let mut server: SignedServer<LeftToServer, Handler<D>> = server_for(rt, opener, settings)?;
+    let zones = &mut server.server.catalog;
+    let journals = open_journals(rt, files, &settings.journals, zones)?;
     let holder = JournalHolder::of(rt.alloc(), &journals, !settings.no_groups)?;
     let mut watch = JournalWatch { rt, journals };
-    serve_input(rt, settings.mode, address, server, &holder, &mut watch)
+    let peer = Peer {
+        mode: settings.mode,
+        address,
+    };
+    serve_input(rt, &mut server, peer, reader, writer, &holder, &mut watch)
 }
 
 /// Serves the standard input as the arguments say.
 fn serve(rt: &HostRuntime, settings: &Settings<'_>, address: IpAddr) -> Result<(), Fault> {
-    let mut server = server_for(rt, &FilesByPath { rt }, settings)?;
-    let ended = serve_with_journals(rt, settings, address, &mut server);
-    drop(server);
-    ended
+    let (opener, files) = (FilesByPath { rt }, SystemFiles { rt });
+    let (mut reader, mut writer) = (rt.reader(), io::writer(rt));
+    match serve_settings(
+        rt,
+        &opener,
+        &files,
+        settings,
+        address,
+        &mut reader,
+        &mut writer,
+    )? {
+        Some(number) => Err(Fault::Line { number }),
+        None => Ok(()),
+    }
 }
 
 /// The file that a fault is of.
@@ -328,15 +310,20 @@ fn is_of_text(fault: ZoneFault) -> bool {
     }
 }
 
+/// Whether a fault of a file is of a line of its text.
+fn is_of_line(fault: SettingFault) -> bool {
+    match fault {
+        SettingFault::Zone(fault) => is_of_text(fault),
+        SettingFault::Keys(fault) => matches!(fault, KeysFault::Text(_)),
+        _ => false,
+    }
+}
+
 /// Whether the message of a fault of a file begins with its line.
 fn has_line(fault: Fault) -> bool {
     match fault {
-        Fault::Zone { fault, .. } => match fault {
-            ZoneFileFault::Zone(fault) => is_of_text(fault),
-            _ => false,
-        },
-        Fault::Keys { fault } => match fault {
-            KeyFileFault::Keys(fault) => matches!(fault, KeysFault::Text(_)),
+        Fault::Zone { fault, .. } | Fault::Keys { fault } => match fault {
+            FileFault::Setting(fault) => is_of_line(fault),
             _ => false,
         },
         _ => false,

@@ -1,13 +1,16 @@
 //! Who may update which zones, from the arguments.
 
-ghost use Rattle.std.specs.Prelude.{◌≡◌, ◌↔◌, All, IfOk, IsTrue, OnOk};
+ghost use Rattle.std.specs.Prelude.{IfOk, OnOk};
 ghost use Rattle.std.specs.List.{AllZip};
-ghost use Rattle.zone_serve.specs.Catalogs.{IsGrantBy, is_loaded};
+ghost use Rattle.server.specs.Updates.{AreOfZones};
+ghost use Rattle.zone_serve.specs.Catalogs.{IsGrantBy};
 
 use crate::fault::Fault;
 use hickory_server::proto::Name;
 use serve_options::arguments::UpdateArgument;
-use served_zones::grants::{Grant, GrantFault, zone_grant};
+use served_zones::grants::{Grant, zone_grant};
+use server::settings::SettingFault;
+use server::updates;
 use std::alloc::Global;
 use tsig::Keys;
 
@@ -17,11 +20,7 @@ fn grant_of(alloc: Global, keys: &Keys, argument: UpdateArgument<'_>) -> Result<
 {
     match zone_grant(alloc, keys, argument.zone, argument.rule) {
         Ok(grant) => Ok(grant),
-        Err(GrantFault::Memory) => Err(Fault::Memory),
-        Err(fault) => Err(Fault::Update {
-            place: argument.place,
-            fault,
-        }),
+        Err(fault) => Err(Fault::of_argument(argument.place, SettingFault::from(fault))),
     }
 }
 
@@ -40,29 +39,11 @@ pub fn grants_of(
     Ok(grants)
 }
 
-/// Whether a zone of this name was loaded.
-fn is_loaded(apexes: &[Name], apex: &Name) -> bool
-    ensures { result ≡ is_loaded apexes.now apex.now }
-{
-    apexes.contains(apex)
-}
-
-/// Whether each rule is of a zone that was loaded.
-fn are_of_zones(grants: &[Grant], apexes: &[Name]) -> bool
-    ensures { IsTrue result ↔ All (λ grant. IsTrue (is_loaded apexes.now grant.apex)) grants.now }
-{
-    grants.iter().all(|grant| is_loaded(apexes, &grant.apex))
-}
-
-/// The place of the argument whose rule is of no zone that was loaded.
-fn place_of_none(grants: &[Grant], apexes: &[Name], arguments: &[UpdateArgument<'_>]) -> usize {
-    match grants
-        .iter()
-        .position(|grant| !is_loaded(apexes, &grant.apex))
-    {
-        Some(index) => arguments.get(index).map_or(0, |argument| argument.place),
-        None => 0,
-    }
+/// The place of the argument of this number among those with rules, from 1.
+fn place_of(arguments: &[UpdateArgument<'_>], number: usize) -> usize {
+    arguments
+        .get(number.saturating_sub(1))
+        .map_or(0, |argument| argument.place)
 }
 
 /// Sees that each rule is of a zone that was loaded.
@@ -71,11 +52,13 @@ pub fn see_zones(
     apexes: &[Name],
     arguments: &[UpdateArgument<'_>],
 ) -> Result<(), Fault>
-    ensures { OnOk result (All (λ grant. IsTrue (is_loaded apexes.now grant.apex)) grants.now) }
+    ensures { OnOk result (AreOfZones grants.now apexes.now) }
 {
-    if are_of_zones(grants, apexes) {
-        return Ok(());
+    match updates::see_zones(grants, apexes) {
+        Ok(()) => Ok(()),
+        Err(SettingFault::RuleWithoutZone { number }) => Err(Fault::UpdateZone {
+            place: place_of(arguments, number),
+        }),
+        Err(fault) => Err(Fault::of_argument(0, fault)),
     }
-    let place = place_of_none(grants, apexes, arguments);
-    Err(Fault::UpdateZone { place })
 }

@@ -144,7 +144,7 @@ pub extern "C" fn zone_service_stop_updates(alloc: Global, service: &mut Handle,
     service.service().stop_updates(alloc, journal);
 }
 
-/// Compacts a journal if it is to be compacted, when nothing is owed to its files. Operations may be owed to them then.
+/// Compacts a journal if it is to be compacted and nothing is owed to its files. Operations may be owed to them then.
 /// The text in `fault` says why the journal is not compacted.
 #[unsafe(no_mangle)]
 pub extern "C" fn zone_service_compact(
@@ -155,15 +155,22 @@ pub extern "C" fn zone_service_compact(
     count: &mut usize,
 ) -> u32
     ensures kept { service.new.service ≡ service.old.service }
+    ensures idle { result ≡ 0 →
+        IsOwedTo (zones_of service.old.service) (slice_get service.old.service.journals.items journal) 0 0 None ×
+        IsOwedTo (zones_of service.old.service) (slice_get service.old.service.journals.items journal) 1 0 None }
     ensures count { count.new ≤ length fault.new }
 {
     *count = 0;
     match service.service().compact(alloc, journal) {
-        JournalState::Open => DONE,
-        JournalState::Shut => tell_fault("the journal takes no updates", fault, count),
-        JournalState::Long(why) => match format!(in alloc; "not compacted: {why}") {
-            Ok(text) => tell_fault(text.as_str(), fault, count),
-            Err(_) => MEMORY,
-        },
+        Ok(None) => tell_fault("operations are owed to its files", fault, count),
+        Ok(Some(JournalState::Open)) => DONE,
+        Ok(Some(JournalState::Shut)) => tell_fault("the journal takes no updates", fault, count),
+        Ok(Some(JournalState::Long(why))) => {
+            match format!(in alloc; "not compacted: {why}") {
+                Ok(text) => tell_fault(text.as_str(), fault, count),
+                Err(_) => MEMORY,
+            }
+        }
+        Err(_) => MEMORY,
     }
 }

@@ -9,5 +9,6 @@ pub mod Minimum
 pub mod MoreFaults
 pub mod NumberBelow
 pub mod Numbering
+pub mod ReadBack
 pub mod WithoutFiles
 pub mod WordKinds

@@ -7,6 +7,7 @@ use Rattle.wire_messages.specs.declared.rr.record.Record.{Record}
 use Rattle.wire_messages.specs.declared.rr.record.Proof.TheVariants.{Indeterminate}
 use Rattle.wire_messages.specs.rr.RecordData.{type_of}
 use Rattle.wire_names.specs.rr.domain.DomainName.{DomainName, name_len}
+use Rattle.hickory_wire.specs.serialize.writing.ReadingBack.{ReadsBack}
 use Rattle.wire_messages.specs.serialize.writing.RecordSize.{data_len}
 use Rattle.text_words.specs.declared.words.TextKind.TheVariants.{ZoneFile}
 use Rattle.text_words.specs.declared.words.Word.{Word}
@@ -28,13 +29,14 @@ pub record IsZoneType (number : ℕ) : Type 0 where
 
 -- What every record of a zone file is: its owner name is fully qualified, its class IN, which is 1 (RFC 1035 section
 -- 3.2.4), its type one of zones, its data no longer than their length can tell (RFC 1035 section 3.2.1), and of its
--- proof nothing is known.
+-- proof nothing is known. It reads back as itself.
 pub record IsZoneRecord (r : Record RData) : Type 0 where
   pub qualified : r.name.is_fqdn ≡ true
   pub class_in : r.dns_class ≡ 1
   pub stored : IsZoneType (type_of r.rdata)
   pub fits : data_len r.rdata ≤ 65535
   pub unproved : r.proof ≡ Indeterminate
+  pub read_back : ReadsBack r
 
 -- the last record, if there is one
 abbrev pub last_record : List (Record RData) → Option (Record RData)

@@ -24,12 +24,12 @@ use Rattle.hickory_store.specs.updates.Identity.{same_record}
 use Rattle.hickory_store.specs.updates.UpdatableZone.{UpdatableZone}
 use Rattle.hickory_store.specs.updates.UpdateAnswers.{AnswersUpdate}
 use Rattle.hickory_store.specs.declared.updates.verifier.Verifier.{Ghosts}
-use Rattle.hickory_zone.proofs.lemmas.names.EnclosedBetween.{same_of}
-use Rattle.hickory_zone.proofs.lemmas.zones.Features.{wild_of_length}
-use Rattle.hickory_zone.specs.representation.Features.{AreFeatures, Covers, Includes, IsOfLength, IsWildWithin}
-use Rattle.hickory_zone.specs.Replies.{as_zone}
-use Rattle.hickory_zone.specs.Zones.{Exists, HasDname, IsCut, Sets, rrset, wildcard}
-use Rattle.hickory_zone.specs.declared.features.Features.{Features}
+use Rattle.zone_answers.proofs.lemmas.names.EnclosedBetween.{same_of}
+use Rattle.zone_answers.proofs.lemmas.zones.Features.{wild_of_length}
+use Rattle.zone_answers.specs.representation.Features.{AreFeatures, Covers, Includes, IsOfLength, IsWildWithin}
+use Rattle.zone_replies.specs.Replies.{as_zone}
+use Rattle.zone_answers.specs.Zones.{Exists, HasDname, IsCut, Sets, rrset, wildcard}
+use Rattle.zone_answers.specs.declared.features.Features.{Features}
 use Rattle.zones.proofs.NamesStay.{names_stay, origin_stays}
 use Rattle.zones.proofs.OwnerNames.{Records, Resource, keys_of_records, lower_len, records_of_keys, same_labels}
 

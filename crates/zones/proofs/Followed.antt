@@ -16,10 +16,10 @@ use Rattle.hickory_store.specs.updates.Identity.{is_in_zone, same_record}
 use Rattle.hickory_store.specs.updates.UpdatableZone.{UpdatableZone}
 use Rattle.hickory_store.specs.updates.UpdateAnswers.{AnswersUpdate}
 use Rattle.hickory_store.specs.declared.updates.verifier.Verifier.{Ghosts}
-use Rattle.hickory_zone.specs.representation.Features.{AreFeatures, Covers, Includes}
-use Rattle.hickory_zone.specs.Replies.{as_zone}
-use Rattle.hickory_zone.specs.Zones.{AreOwners}
-use Rattle.hickory_zone.specs.declared.features.Features.{Features}
+use Rattle.zone_answers.specs.representation.Features.{AreFeatures, Covers, Includes}
+use Rattle.zone_replies.specs.Replies.{as_zone}
+use Rattle.zone_answers.specs.Zones.{AreOwners}
+use Rattle.zone_answers.specs.declared.features.Features.{Features}
 use Rattle.zones.specs.Owners.{IsNamed}
 use Rattle.zones.proofs.FeaturesStay.{features_stay}
 use Rattle.zones.proofs.OwnerNames.{Records, Resource, owners_of_records}

@@ -9,8 +9,8 @@ use Rattle.hickory_base.specs.declared.errors.LookupError.{LookupError}
 use Rattle.hickory_base.specs.declared.errors.LookupError.TheVariants.{ResponseCode}
 use Rattle.hickory_store.specs.updates.Permission.{Permission}
 use Rattle.hickory_store.specs.updates.TransferAnswers.{SoaTransferredAs, TransferredAs}
-use Rattle.hickory_zone.specs.Handled.{is_by_soa, names_zone}
-use Rattle.hickory_zone.specs.Replies.{as_zone}
+use Rattle.zone_replies.specs.Handled.{is_by_soa, names_zone}
+use Rattle.zone_replies.specs.Replies.{as_zone}
 use Rattle.zone_differences.specs.declared.difference.Difference.{Difference}
 use Rattle.zones.specs.ZoneTransfers.{GivenFor, GivenSince, IsIncremental, TransferAnswer, TransferredFor, since_version}
 

@@ -4,8 +4,8 @@ use Rattle.std.specs.Prelude.{IfSome}
 use Rattle.hickory_store.specs.updates.UpdatableZone.{UpdatableZone}
 use Rattle.durable_updates.specs.Holding.{ZoneInMemory}
 use Rattle.hickory_base.specs.zone_store.ZoneAnswers.{MemoryZone}
-use Rattle.hickory_zone.specs.declared.prepared.Prepared.{Prepared}
-use Rattle.hickory_zone.specs.representation.PreparedZones.{IsPrepared}
+use Rattle.zone_replies.specs.declared.prepared.Prepared.{Prepared}
+use Rattle.zone_replies.specs.representation.PreparedZones.{IsPrepared}
 use Rattle.zones.specs.KeptZones.{kept_zone}
 use Rattle.zones.specs.Overviews.{IsOverview}
 use Rattle.zones.specs.declared.kept.Kept.{Kept}

@@ -17,7 +17,7 @@ use Rattle.hickory_store.specs.updates.Prescan.{prescan_refusal}
 use Rattle.hickory_store.specs.updates.UpdatableZone.{UpdatableZone}
 use Rattle.hickory_store.specs.updates.UpdateAnswers.{AnswersUpdate, IsOutcome, Outcome, applied, unless_refused}
 use Rattle.hickory_store.specs.declared.updates.verifier.Verifier.{Ghosts}
-use Rattle.durable_updates.specs.DurableUpdates.{AnswersDurably, MayStayUnwritten}
+use Rattle.durable_updates.specs.DurableUpdates.{AnswersDurably, MayStayUnwritten, StaysUnwritten}
 use Rattle.update_policy.specs.declared.policy.Rule.{Rule}
 use Rattle.zone_differences.specs.Histories.{IsRecorded}
 use Rattle.zone_differences.specs.Standing.{IsChangedBy, IsKnown, Records}
@@ -103,23 +103,30 @@ same_history (Err fault) old new history other = refl
 -- ---- the zone as a whole
 
 pub is_made : {V : Type 0} (by : Ghosts V) (request : TimedRequest) (answer : UpdateResult) (context : SignerContext) (old new : KeptZone V) (policy : List Rule) (history after : List Difference)
-    → AnswersDurably (IsTrue old.is_journalled × MayStayUnwritten by old.updatable request) by old.updatable request (answer, context) new.updatable → new ≡ record old { updatable = new.updatable }
+    → AnswersDurably (IsTrue old.is_journalled × StaysUnwritten by old.updatable request new.takes_entries) by old.updatable request (answer, context) new.updatable
+    → new ≡ record old { updatable = new.updatable; takes_entries = new.takes_entries }
     → IsHistory answer old.updatable.zone new.updatable.zone history after
     → IsMade by (zone_state old history policy) request answer context (zone_state new after policy)
 is_made {V} by request answer context old new policy history after a others recorded =
-    record { answers = a; recorded = recorded; others = ap (λ (k : KeptZone V). zone_state k after policy) others }
+    record { answers = whatever_journal a; recorded = recorded; others = ap (λ (k : KeptZone V). zone_state k after policy) others }
+  where
+    why : StaysUnwritten by old.updatable request new.takes_entries → MayStayUnwritten by old.updatable request
+    why (inl unread) = inl unread
+    why (inr refused) = inr refused.0
 
--- an update that was refused left what is kept, so that it left the zone
+    whatever_journal : AnswersDurably (IsTrue old.is_journalled × StaysUnwritten by old.updatable request new.takes_entries) by old.updatable request (answer, context) new.updatable
+        → AnswersDurably (IsTrue old.is_journalled × MayStayUnwritten by old.updatable request) by old.updatable request (answer, context) new.updatable
+    whatever_journal (inl made) = inl made
+    whatever_journal (inr unwritten) = inr (unwritten.0, unwritten.1, (unwritten.2.0, why unwritten.2.1))
+
+-- an update that was refused left the zone
 pub same_state : {V : Type 0} (answer : UpdateResult) (old new : KeptZone V) (policy : List Rule) (history : List Difference)
-    → OnErr answer (new ≡ old) → OnErr answer (zone_state new history policy ≡ zone_state old history policy)
-same_state (Ok changed) old new policy history kept = tt
-same_state {V} (Err fault) old new policy history kept = ap (λ (k : KeptZone V). zone_state k history policy) kept
+    → new ≡ record old { updatable = new.updatable; takes_entries = new.takes_entries } → OnErr answer (new.updatable ≡ old.updatable)
+    → OnErr answer (zone_state new history policy ≡ zone_state old history policy)
+same_state (Ok changed) old new policy history others kept = tt
+same_state {V} (Err fault) old new policy history others kept =
+    ap (λ (k : KeptZone V). zone_state k history policy) others ∙ ap (λ (u : UpdatableZone V). zone_state (record old { updatable = u }) history policy) kept
 
 -- an update that changed the zone was not refused
 pub not_refused : (P : Type 0) (answer : UpdateResult) → answer ≡ Ok true → OnErr answer P
 not_refused P answer is = subst (λ (r : UpdateResult). OnErr r P) (sym is) tt
-
--- what is kept was left, and so is the zone in memory
-pub same_updatable : {V : Type 0} (answer : UpdateResult) (old new : KeptZone V) → OnErr answer (new ≡ old) → OnErr answer (new.updatable ≡ old.updatable)
-same_updatable (Ok changed) old new kept = tt
-same_updatable {V} (Err fault) old new kept = ap (λ (k : KeptZone V). k.updatable) kept

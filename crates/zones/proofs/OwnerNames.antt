@@ -12,7 +12,7 @@ use Rattle.wire_messages.specs.declared.rr.rdata.RData.{RData}
 use Rattle.wire_messages.specs.declared.rr.record.Record.{Record}
 use Rattle.wire_messages.specs.declared.rr.rr_key.RrKey.{RrKey}
 use Rattle.hickory_base.specs.zone_store.ZoneSets.{IsUnder, IsZone, zone_records}
-use Rattle.hickory_zone.specs.Zones.{IsOwner, Sets}
+use Rattle.zone_answers.specs.Zones.{IsOwner, Sets}
 use Rattle.zones.specs.Owners.{OwnersOfRecords}
 
 abbrev pub Resource : Type 0

@@ -22,7 +22,7 @@ use Rattle.hickory_store.specs.updates.UpdatableZone.{UpdatableZone}
 use Rattle.hickory_store.specs.updates.UpdateAnswers.{AnswersUpdate, UpdatesAll}
 use Rattle.hickory_store.specs.updates.UpdateLaws.{HoldsIn}
 use Rattle.hickory_store.specs.declared.updates.verifier.Verifier.{Ghosts}
-use Rattle.hickory_zone.specs.Zones.{IsOwner}
+use Rattle.zone_answers.specs.Zones.{IsOwner}
 use Rattle.durable_updates.specs.DurableUpdates.{AnswersDurably, MayStayUnwritten}
 use Rattle.zones.specs.Owners.{AreOwned, IsNamed, IsOfItsBytes, OwnersStay, OwnersStayByRules}
 use Rattle.zones.specs.ZoneStates.{ZoneState}

@@ -26,7 +26,7 @@ use Rattle.hickory_store.specs.declared.updates.verifier.Verifier.{Ghosts}
 use Rattle.hickory_store.proofs.lemmas.updates.ChangedSets.{own_rrset}
 use Rattle.hickory_store.proofs.lemmas.updates.NamesApart.{fold_by_name}
 use Rattle.hickory_store.proofs.lemmas.updates.UpdatedZones.{next_type}
-use Rattle.hickory_zone.specs.representation.Indexes.{KeepsOthers}
+use Rattle.zone_answers.specs.representation.Indexes.{KeepsOthers}
 use Rattle.zones.proofs.OwnerNames.{Records, Resource}
 
 names : IsEquivalence name_eq

@@ -7,8 +7,8 @@ use Rattle.hickory_base.specs.zone_store.ZoneAnswers.{MemoryZone}
 use Rattle.hickory_store.specs.updates.UpdateAnswers.{AnswersUpdate}
 use Rattle.hickory_store.specs.declared.updates.verifier.Verifier.{Ghosts}
 use Rattle.durable_updates.specs.DurableUpdates.{IsAccepted}
-use Rattle.hickory_zone.specs.Handled as authoritative
-use Rattle.hickory_zone.specs.Zones.{AreOwners}
+use Rattle.zone_replies.specs.Handled as authoritative
+use Rattle.zone_answers.specs.Zones.{AreOwners}
 use Rattle.zones.specs.ZoneQueries.{LookedUp, Searched}
 use Rattle.zones.specs.ZoneStates.{ZoneState}
 use Rattle.zones.specs.ZoneUpdates.{IsGrantedTo, Updates}

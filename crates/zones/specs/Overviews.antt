@@ -7,10 +7,10 @@ use Rattle.hickory_base.specs.zone_store.ZoneSets.{AreSetsInOrder, IsZone}
 use Rattle.hickory_store.specs.updates.UpdatableZone.{UpdatableZone}
 use Rattle.hickory_store.specs.updates.UpdateAnswers.{AnswersUpdate}
 use Rattle.hickory_store.specs.declared.updates.verifier.Verifier.{Ghosts}
-use Rattle.hickory_zone.specs.representation.Features.{AreFeatures}
-use Rattle.hickory_zone.specs.representation.PreparedZones.{IsPrepared}
-use Rattle.hickory_zone.specs.Replies.{as_zone}
-use Rattle.hickory_zone.specs.Zones.{AreOwners}
+use Rattle.zone_answers.specs.representation.Features.{AreFeatures}
+use Rattle.zone_replies.specs.representation.PreparedZones.{IsPrepared}
+use Rattle.zone_replies.specs.Replies.{as_zone}
+use Rattle.zone_answers.specs.Zones.{AreOwners}
 use Rattle.zones.specs.declared.overview.Overview.{Overview}
 
 -- What the zone has at all, whether each of its owner names may own records of it, and what was made of it, if anything.

@@ -15,7 +15,7 @@ use Rattle.hickory_store.specs.updates.UpdatableZone.{UpdatableZone}
 use Rattle.hickory_store.specs.updates.UpdateAnswers.{AnswersUpdate, UpdatesAll}
 use Rattle.hickory_store.specs.updates.UpdateLaws.{HoldsIn}
 use Rattle.hickory_store.specs.declared.updates.verifier.Verifier.{Ghosts}
-use Rattle.hickory_zone.specs.Zones.{AreOwners, IsOwner, Sets}
+use Rattle.zone_answers.specs.Zones.{AreOwners, IsOwner, Sets}
 use Rattle.zones.specs.Laws.{OfUpdates}
 
 -- the owner name of the record may own records of the zone

@@ -1,4 +1,4 @@
--- What a zone answers to a query: what `hickory_zone` says of the zone as its updates left it, if
+-- What a zone answers to a query: what `zone_replies` says of the zone as its updates left it, if
 -- each owner name of the zone may own records of it.
 use Rattle.std.specs.Prelude.{◌≡◌, ◌⊎◌, ℕ, [], false, Result, Ok, Err}
 use Rattle.wire_names.specs.rr.domain.DomainName.{DomainName}
@@ -8,15 +8,16 @@ use Rattle.hickory_base.specs.requests.Questions.{one_query}
 use Rattle.hickory_base.specs.requests.Requests.{ReceivedRequest}
 use Rattle.hickory_base.specs.zone_store.Lookups.{Flow}
 use Rattle.hickory_base.specs.zone_store.ZoneAnswers.{MemoryZone}
+use Rattle.hickory_base.specs.zone_store.ZoneSets.{IsZone}
 use Rattle.hickory_base.specs.declared.errors.LookupError.{LookupError}
 use Rattle.hickory_base.specs.declared.errors.LookupError.TheVariants.{Memory, ResponseCode}
 use Rattle.hickory_base.specs.declared.zone_store.lookup.AuthLookup.{AuthLookup}
 use Rattle.hickory_base.specs.declared.zone_store.lookup.AuthLookup.TheVariants as lookup
 use Rattle.hickory_base.specs.declared.zone_store.lookup.LookupControlFlow.TheVariants.{Break, Continue}
 use Rattle.hickory_base.specs.declared.zone_store.lookup.WholeReply.{WholeReply}
-use Rattle.hickory_zone.specs.Handled.{IsLookedUp, StandsFor}
-use Rattle.hickory_zone.specs.Replies.{as_zone, whole}
-use Rattle.hickory_zone.specs.Zones.{AreOwners}
+use Rattle.zone_replies.specs.Handled.{IsLookedUp, StandsFor}
+use Rattle.zone_replies.specs.Replies.{as_zone, whole}
+use Rattle.zone_answers.specs.Zones.{AreOwners}
 
 -- a reply that says only that the server failed (RFC 1035 section 4.1.1)
 abbrev pub failure : WholeReply
@@ -26,7 +27,7 @@ failure = whole code_serv_fail false [] [] []
 -- no records of the zone, the reply is ServFail.
 pub data IsAnswered (zone : MemoryZone) (query : Query) (result : Result AuthLookup LookupError) : Type 0 where
   replied : AreOwners zone.origin zone.sets → StandsFor zone query result → IsAnswered zone query result
-  failed : ¬ (AreOwners zone.origin zone.sets) → result ≡ Ok (lookup.Whole failure) → IsAnswered zone query result
+  failed : IsZone zone.sets → ¬ (AreOwners zone.origin zone.sets) → result ≡ Ok (lookup.Whole failure) → IsAnswered zone query result
 
 -- The result of a lookup, by which the catalog completes a reply; ServFail in the same case.
 pub data IsFound (zone : MemoryZone) (name : DomainName) (t : ℕ) (result : Result AuthLookup LookupError) : Type 0 where

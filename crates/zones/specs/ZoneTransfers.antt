@@ -15,8 +15,8 @@ use Rattle.hickory_store.specs.updates.Permission.{Permission, transfer_permissi
 use Rattle.hickory_store.specs.updates.TransferAnswers.{SoaTransferredAs, TransferredAs, transfer_or_code}
 use Rattle.hickory_store.specs.updates.UpdatableZone.{UpdatableZone}
 use Rattle.hickory_store.specs.declared.updates.verifier.Verifier.{Ghosts}
-use Rattle.hickory_zone.specs.Handled.{held_serial, is_by_soa, names_zone}
-use Rattle.hickory_zone.specs.Replies.{as_zone}
+use Rattle.zone_replies.specs.Handled.{held_serial, is_by_soa, names_zone}
+use Rattle.zone_replies.specs.Replies.{as_zone}
 use Rattle.zone_differences.specs.Histories.{since}
 use Rattle.zone_differences.specs.Sequences.{with_differences}
 use Rattle.zone_differences.specs.declared.difference.Difference.{Difference}

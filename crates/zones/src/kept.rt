@@ -1,7 +1,7 @@
 //! What keeps the records of a zone: memory, or a journal too.
 
 ghost use Rattle.std.specs.Prelude.{◌≡◌, ◌⊎◌, IfErr, IfOk, IfSome, IsTrue, OnErr, OnOk, false, is_some, option_copied, true};
-ghost use Rattle.durable_updates.specs.DurableUpdates.{AnswersDurably, MayStayUnwritten};
+ghost use Rattle.durable_updates.specs.DurableUpdates.{AnswersDurably, StaysUnwritten};
 ghost use Rattle.durable_updates.specs.Holding.{AreFilesOf};
 ghost use Rattle.durable_updates.specs.OpenErrors.{is_no_journal};
 ghost use Rattle.durable_updates.specs.Recorded.{IsDurable, IsHandedBack, IsRefused};
@@ -57,6 +57,7 @@ impl<V: Verifier, D: Disk + Drop> Kept<V, D> {
           updatable = record (kept_zone self).updatable { zone = (kept_zone result.0).updatable.zone };
           is_journalled = true;
           holds = false;
+          takes_entries = (kept_zone result.0).takes_entries;
         }) }
         ensures kept { OnErr result.1 (result.0 ≡ self) }
         ensures err { IfErr result.1 (λ e. IsHandedBack D.Disk files.1 e.1 × IsHandedBack D.Disk files.2 e.2) }
@@ -97,7 +98,7 @@ impl<V: Verifier, D: Disk + Drop> Kept<V, D> {
 
     /// Shuts the journal, if there is one: it takes no entries from then on.
     pub(crate) fn shut(&mut self)
-        ensures { kept_zone self.new ≡ kept_zone self.old }
+        ensures { kept_zone self.new ≡ record (kept_zone self.old) { takes_entries = false } }
     {
         match self {
             Kept::Memory(_) => {}
@@ -108,12 +109,17 @@ impl<V: Verifier, D: Disk + Drop> Kept<V, D> {
     /// Makes an update. If there is a journal, the update is on the disk before the answer, or it is held.
     pub(crate) fn update(&mut self, alloc: Global, request: &Request, now: u64) -> UpdateAnswer
         ensures answers { AnswersDurably (IsTrue (kept_zone self.old).is_journalled ×
-            MayStayUnwritten V.Verifier (kept_zone self.old).updatable (request.now, now)) V.Verifier
+            StaysUnwritten V.Verifier (kept_zone self.old).updatable (request.now, now)
+            (kept_zone self.new).takes_entries) V.Verifier
             (kept_zone self.old).updatable (request.now, now) result (kept_zone self.new).updatable }
+        ensures written { OnOk result.0 ((kept_zone self.old).is_journalled ≡ true →
+            (kept_zone self.old).takes_entries ≡ true) }
+        ensures shut { (kept_zone self.old).takes_entries ≡ false → (kept_zone self.new).takes_entries ≡ false }
         ensures others { kept_zone self.new ≡ record (kept_zone self.old) {
           updatable = (kept_zone self.new).updatable;
+          takes_entries = (kept_zone self.new).takes_entries;
         } }
-        ensures kept { OnErr result.0 (kept_zone self.new ≡ kept_zone self.old) }
+        ensures kept { OnErr result.0 ((kept_zone self.new).updatable ≡ (kept_zone self.old).updatable) }
     {
         match self {
             Kept::Memory(zone) => zone.update_by(alloc, request, now, true),

@@ -5,11 +5,11 @@ ghost use Rattle.hickory_base.specs.zone_store.Lookups.{whole_answer};
 ghost use Rattle.hickory_base.specs.zone_store.ZoneAnswers.{MemoryZone};
 ghost use Rattle.hickory_base.specs.zone_store.ZoneSets.{AreSetsInOrder, IsZone};
 ghost use Rattle.hickory_base.specs.declared.errors.LookupError.TheVariants.{Memory};
-ghost use Rattle.hickory_zone.specs.representation.Features.{AreFeatures};
-ghost use Rattle.hickory_zone.specs.representation.Indexes.{KeepsOthers};
-ghost use Rattle.hickory_zone.specs.representation.PreparedZones.{IsPrepared};
-ghost use Rattle.hickory_zone.specs.Replies.{as_zone};
-ghost use Rattle.hickory_zone.specs.Zones.{AreOwners};
+ghost use Rattle.zone_answers.specs.representation.Features.{AreFeatures};
+ghost use Rattle.zone_answers.specs.representation.Indexes.{KeepsOthers};
+ghost use Rattle.zone_replies.specs.representation.PreparedZones.{IsPrepared};
+ghost use Rattle.zone_replies.specs.Replies.{as_zone};
+ghost use Rattle.zone_answers.specs.Zones.{AreOwners};
 ghost use Rattle.zones.specs.Overviews.{Follows, IsOverview};
 ghost use Rattle.zones.specs.Owners.{IsNamed};
 ghost use Rattle.zones.specs.ZoneQueries.{IsAnswered, IsFound, LookedUp, Searched, failure};
@@ -23,8 +23,9 @@ use hickory_base::zone_store::{
 use hickory_store::updates::laws::identities;
 use hickory_store::updates::{UpdatableZoneHandler, Verifier};
 use hickory_wire::{LowerName, LowerQuery, Record, RecordType, ResponseCode};
-use hickory_zone::handled::{put_whole, records, whole};
-use hickory_zone::{Features, Prepared, are_owners, features_of, with_records};
+use zone_replies::handled::{put_whole, records, whole};
+use zone_answers::{Features, are_owners, features_of, with_records};
+use zone_replies::Prepared;
 use std::alloc::Global;
 
 /// What is known of a zone as a whole: by it the zone answers standard queries (RFC 1034 section 4.3.2), and it is
@@ -189,6 +190,7 @@ impl Overview {
         ensures { IsAnswered zone.now query.now result ⊎ (result ≡ Err Memory) }
     {
         if !self.is_owned {
+            read_sets(zone);
             return Ok(AuthLookup::Whole(failure()));
         }
         whole(alloc, zone, query, self.has, self.prepared.as_ref())

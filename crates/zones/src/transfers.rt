@@ -9,7 +9,7 @@ use hickory_base::server::Request;
 use hickory_base::zone_store::{LookupOptions, ZoneHandler, ZoneTransfer};
 use hickory_store::updates::{UpdatableZoneHandler, Verifier};
 use hickory_wire::{LowerQuery, RecordType, ResponseCode, TSigResponseContext};
-use hickory_zone::handled::{held_serial, is_by_soa, names_zone};
+use zone_replies::handled::{held_serial, is_by_soa, names_zone};
 use std::alloc::Global;
 use zone_differences::{History, Steps};
 

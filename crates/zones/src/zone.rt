@@ -5,7 +5,7 @@ ghost use Rattle.hickory_base.specs.zone_store.ZoneAnswers.{soa_serial, zone_soa
 ghost use Rattle.durable_updates.specs.Holding.{AreFilesOf};
 ghost use Rattle.durable_updates.specs.OpenErrors.{is_no_journal};
 ghost use Rattle.durable_updates.specs.Recorded.{IsDurable, IsHandedBack, IsRefused};
-ghost use Rattle.hickory_zone.specs.Zones.{AreOwners};
+ghost use Rattle.zone_answers.specs.Zones.{AreOwners};
 ghost use Rattle.sqlite_disk.specs.Disk.{Only};
 ghost use Rattle.zones.specs.Journals.{IsOpened};
 ghost use Rattle.zones.specs.KeptZones.{kept_zone};

@@ -7,4 +7,3 @@ pub mod Refusals
 pub mod Results
 pub mod RuleLaws
 pub mod Runs
-pub mod Sent

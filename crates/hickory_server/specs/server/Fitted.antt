@@ -1,87 +1,106 @@
--- What is sent over UDP in the place of a reply that is longer than its client takes or the server allows (RFC 1035
--- section 4.2.1, RFC 6891 section 6.2.3).
-use Rattle.std.specs.Prelude.{◌≡◌, ◌+◌, ◌<◌, ◌≤◌, ◌==◌, ◌⊎◌, [], ℕ, List, Bool, None, Option, false, length, min, take, true}
+-- What is sent over UDP of a reply for which there may be no room (RFC 1035 section 4.2.1, RFC 6891 section 6.2.3).
+use Rattle.std.specs.Prelude.{◌≡◌, ◌+◌, ◌-◌, ◌<◌, ◌≤◌, ◌==◌, ◌&&◌, ℕ, List, Bool, None, Option, Some, drop, false, length, max, min, not, option_map, slice_get, take, true, []}
 use Rattle.std.specs.List.{list_any}
-use Rattle.wire_names.specs.declared.error.ProtoError.{ProtoError}
-use Rattle.wire_messages.specs.Numbers.{type_ns}
+use Rattle.wire_names.specs.rr.domain.NameOrder.{name_eq}
+use Rattle.wire_messages.specs.Numbers.{type_ns, type_soa}
 use Rattle.wire_messages.specs.op.EdnsFields.{EdnsFields}
-use Rattle.wire_messages.specs.op.Metadata.{response_to}
 use Rattle.wire_messages.specs.rr.RecordData.{type_of}
 use Rattle.wire_messages.specs.serialize.writing.Reply.{Reply}
 use Rattle.wire_messages.specs.declared.op.header.Header.{Header}
+use Rattle.wire_messages.specs.declared.op.header.Metadata.{Metadata}
 use Rattle.wire_messages.specs.declared.rr.rdata.RData.{RData}
 use Rattle.wire_messages.specs.declared.rr.record.Record.{Record}
-use Rattle.wire_reading.specs.serialize.layout.WholeMessage.{MessageAt}
 use Rattle.hickory_wire.specs.serialize.writing.ReplyParts.{ReplyEncoded}
-use Rattle.hickory_base.specs.requests.RequestReading.{IsFaultOf, IsQuestionSection, message_of}
-use Rattle.hickory_base.specs.declared.requests.message_request.MessageRequest.{MessageRequest}
-use Rattle.hickory_server.specs.server.Written.{IsBare, with_tc}
+use Rattle.hickory_server.specs.server.Written.{IsEncoding, bare_message, with_tc}
 
--- whether there is an NS record among these
-abbrev pub has_name_server : List (Record RData) → Bool
-has_name_server = list_any (λ r. type_of r.rdata == type_ns)
+-- ---- the records of a reply
 
--- The message is a referral: no AA, no answers, and name servers among its authorities (RFC 1034 section 4.3.2 step
--- 3b). Its additionals are glue.
-pub record IsReferral (message : MessageRequest) : Type 0 where
-  pub not_authoritative : message.metadata.authoritative ≡ false
-  pub no_answers : message.answers ≡ []
-  pub name_servers : has_name_server message.authorities ≡ true
+-- whether there is a record of this type among these
+abbrev pub has_type : ℕ → List (Record RData) → Bool
+has_type number = list_any (λ r. type_of r.rdata == number)
 
--- what a message says, but with this EDNS, with the first so many of its additionals, and without its signature, which
--- would not hold over a shorter message (RFC 8945 section 5.3)
-abbrev pub front_of : MessageRequest → Option EdnsFields → ℕ → Reply
-front_of message edns count = record {
-  metadata = message.metadata;
-  question = message.queries.bytes;
-  question_count = length message.queries.queries;
-  edns = edns;
-  answers = message.answers;
-  authorities = message.authorities;
-  soa = [];
-  additionals = take count message.additionals;
-  signature = None;
-}
+-- The reply is a referral: its authority section has NS records, and no SOA record (RFC 1034 section 4.3.2 step 3b, RFC
+-- 2308 section 2.2). Its additionals are glue, also if a CNAME record is among its answers (RFC 9471 section 3.1).
+pub record IsReferral (reply : Reply) : Type 0 where
+  pub name_servers : has_type type_ns reply.authorities ≡ true
+  pub no_soa : has_type type_soa reply.authorities ≡ false
+  pub no_last_soa : has_type type_soa reply.soa ≡ false
 
--- By the header of the bytes nothing is left out of them, and they are within the limit.
-abbrev pub Fits : ℕ → Header → List ℕ → Type 0
-Fits limit header bytes = (header.metadata.truncation ≡ false) × (length bytes ≤ limit)
+-- whether two records are of one RRset: they have the same owner, type and class (RFC 2181 section 5)
+abbrev pub is_of_set : Record RData → Record RData → Bool
+is_of_set one other = name_eq one.name other.name && (type_of one.rdata == type_of other.rdata) && (one.dns_class == other.dns_class)
 
--- The bytes are the whole reply, within the limit.
+-- whether the last record before a place and the next one after it are of two RRsets, or one of them does not exist
+abbrev pub are_parted : Option (Record RData) → Option (Record RData) → Bool
+are_parted (Some last) (Some next) = not (is_of_set last next)
+are_parted other next = true
+
+-- whether so many of these records have no part of an RRset
+abbrev pub ends_set : List (Record RData) → ℕ → Bool
+ends_set records count = are_parted (slice_get (take count records) (length (take count records) - 1)) (slice_get (drop count records) 0)
+
+-- the reply with so many of its additionals, and without its signature, which would not hold over a shorter message
+-- (RFC 8945 section 5.3)
+abbrev pub front_of : Reply → ℕ → Reply
+front_of reply count = record reply { additionals = take count reply.additionals; signature = None }
+
+-- ---- room
+
+-- By the header of an encoding a record is left out: it has TC, and the reply has not.
+abbrev pub LeavesOut : Metadata → Header → Type 0
+LeavesOut metadata header = (metadata.truncation ≡ false) × (header.metadata.truncation ≡ true)
+
+-- The reply has no room: this is the header of its encoding within the limit, and a record is left out. With all its
+-- names in full, that record passes the limit.
+abbrev pub HasNoRoom : ℕ → Reply → Header → Type 0
+HasNoRoom limit reply header = (bytes : List ℕ) × ReplyEncoded limit reply bytes header × LeavesOut reply.metadata header
+
+-- The bytes are the encoding of the reply within the limit, and no record is left out.
 abbrev pub IsWhole : ℕ → Reply → List ℕ → Type 0
-IsWhole limit reply bytes = (header : Header) × ReplyEncoded 65535 reply bytes header × Fits limit header bytes
+IsWhole limit reply bytes = (header : Header) × ReplyEncoded limit reply bytes header × ¬ (LeavesOut reply.metadata header)
 
--- The whole reply has no room within the limit.
-abbrev pub LacksRoom : ℕ → Reply → Type 0
-LacksRoom limit reply = (bytes : List ℕ) × (header : Header) × ReplyEncoded 65535 reply bytes header × ¬ (Fits limit header bytes)
+-- So many additionals have a part of an RRset, or the reply with them has no room.
+abbrev pub IsNoFront : ℕ → Reply → ℕ → Type 0
+IsNoFront limit reply count = ends_set reply.additionals count ≡ true → (header : Header) × HasNoRoom limit (front_of reply count) header
 
--- So many of the message's additionals are in an encoding within the limit that has no OPT record.
-pub record HasRoomFor (limit : ℕ) (message : MessageRequest) (most : ℕ) : Type 0 where
-  pub bytes : List ℕ
-  pub header : Header
-  pub encoded : ReplyEncoded limit (front_of message None (length message.additionals)) bytes header
-  pub most_is : most ≡ min header.counts.additionals (length message.additionals)
+-- The bytes are the reply with so many of its additionals, which have no part of an RRset.
+abbrev pub IsFront : ℕ → Reply → ℕ → List ℕ → Type 0
+IsFront limit reply count bytes = (ends_set reply.additionals count ≡ true) × IsWhole limit (front_of reply count) bytes
 
--- The bytes are the message with a front of its additionals and with its OPT record. No longer front has room, up to
--- this length.
-pub record IsLongestFront (limit : ℕ) (message : MessageRequest) (most : ℕ) (bytes : List ℕ) : Type 0 where
+-- The bytes are the reply with whole RRsets of its additionals, in their order, and no longer front of them has room,
+-- up to this length.
+pub record IsLongestFront (limit : ℕ) (reply : Reply) (most : ℕ) (bytes : List ℕ) : Type 0 where
   pub count : ℕ
   pub at_most : count ≤ most
-  pub no_longer : count < most → LacksRoom limit (front_of message message.edns (count + 1))
-  pub whole : IsWhole limit (front_of message message.edns count) bytes
+  pub is_front : IsFront limit reply count bytes
+  pub no_longer : (more : ℕ) → count < more → more ≤ most → IsNoFront limit reply more
 
--- What is sent in the place of a message.
-pub data IsCutTo (limit : ℕ) (request message : MessageRequest) (bytes : List ℕ) : Type 0 where
-  -- Only additionals are left out, and the message is no referral: TC is clear (RFC 2181 section 9).
-  front : {most : ℕ} → ¬ (IsReferral message) → HasRoomFor limit message most → IsLongestFront limit message most bytes → IsCutTo limit request message bytes
-  -- An answer, an authority or glue has no room: TC is set (RFC 2181 section 9, RFC 9471 section 3.1), and no record is
-  -- sent but the OPT record (RFC 6891 section 7).
-  none : IsReferral message ⊎ LacksRoom limit (front_of message message.edns 0) → IsBare limit request (with_tc message.metadata) bytes → IsCutTo limit request message bytes
+-- A reply that has no room, with this header, lacks a record that it must have, or TC.
+pub data LacksNeeded (limit : ℕ) (reply : Reply) (header : Header) : Type 0 where
+  -- an answer or an authority (RFC 2181 section 9)
+  answer : header.counts.answers < length reply.answers → LacksNeeded limit reply header
+  authority : header.counts.authorities < length reply.authorities + length reply.soa → LacksNeeded limit reply header
+  -- glue (RFC 9471 section 3.1)
+  glue : IsReferral reply → LacksNeeded limit reply header
+  -- the OPT record, even without additionals (RFC 6891 section 7)
+  opt : IsNoFront limit reply 0 → LacksNeeded limit reply header
 
--- What is sent in the place of the bytes of a reply to this request.
-pub data IsFitted (limit : ℕ) (request : MessageRequest) (reply bytes : List ℕ) : Type 0 where
-  -- The message that begins them is cut.
-  read : {message : MessageRequest} → MessageAt reply (message_of message) → IsQuestionSection reply message.queries
-      → IsCutTo limit request message bytes → IsFitted limit request reply bytes
-  -- They begin with no message that is read, as with a SIG record among the answers: only TC is sent.
-  unread : {e : ProtoError} → IsFaultOf reply e → IsBare limit request (with_tc (response_to request.metadata)) bytes → IsFitted limit request reply bytes
+-- ---- what is sent
+
+-- what an OPT record says of the same server, without options
+abbrev pub without_options : EdnsFields → EdnsFields
+without_options edns = record edns { max_payload = max edns.max_payload 512; reserved_flags = 0; options = [] }
+
+-- the header of a reply with TC, its questions and its OPT record, and no other record
+abbrev pub truncated : Reply → Reply
+truncated reply = bare_message (with_tc reply.metadata) reply.question reply.question_count (option_map without_options reply.edns)
+
+-- What is sent of a reply within the limit.
+pub data IsFitted (limit : ℕ) (reply : Reply) (bytes : List ℕ) : Type 0 where
+  -- No record is left out.
+  whole : IsWhole limit reply bytes → IsFitted limit reply bytes
+  -- Only RRsets of additionals are left out, and the reply is no referral: TC is clear (RFC 2181 section 9).
+  front : {header : Header} → HasNoRoom limit reply header → ¬ (IsReferral reply)
+      → IsLongestFront limit reply (min header.counts.additionals (length reply.additionals)) bytes → IsFitted limit reply bytes
+  -- A record that it must have has no room: TC is set (RFC 2181 section 9).
+  tc : {header : Header} → HasNoRoom limit reply header → LacksNeeded limit reply header → IsEncoding limit (truncated reply) bytes → IsFitted limit reply bytes

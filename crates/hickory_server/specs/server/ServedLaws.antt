@@ -1,35 +1,34 @@
 -- What holds of whatever becomes of a message by the rules of a server.
 use Rattle.std.specs.Prelude.{◌≡◌, ◌+◌, ◌≤◌, ◌<◌, ◌⊎◌, ◌∷◌, [], ℕ, List, None, Some, Contains, length}
-use Rattle.std.specs.List.{AllByRecursion}
+use Rattle.std.specs.List.{AllByRecursion, AllZip}
 use Rattle.wire_names.specs.rr.domain.DomainName.{DomainName}
 use Rattle.wire_messages.specs.op.EdnsFields.{EdnsFields}
 use Rattle.wire_messages.specs.declared.op.header.Header.{Header}
-use Rattle.wire_messages.specs.declared.op.header.Metadata.{Metadata}
-use Rattle.wire_messages.specs.declared.protocol.Protocol.TheVariants.{Tcp, Udp}
+use Rattle.wire_messages.specs.serialize.writing.Reply.{Reply}
+use Rattle.wire_messages.specs.declared.protocol.Protocol.TheVariants.{Udp}
 use Rattle.hickory_wire.specs.serialize.writing.ReplyParts.{ReplyEncoded}
-use Rattle.hickory_base.specs.declared.requests.message_request.MessageRequest.{MessageRequest}
-use Rattle.hickory_catalog.specs.replies.ReplyEdns.{reply_edns}
-use Rattle.hickory_server.specs.server.Written.{IsBare, bare_message}
 use Rattle.hickory_base.specs.requests.Questions.{payload_limit}
 use Rattle.hickory_base.specs.requests.Requests.{ReceivedRequest}
 use Rattle.hickory_base.specs.declared.zone_store.handler.ZoneHandler.{Ghosts}
 use Rattle.hickory_catalog.specs.requests.Alone.{IsOfZone}
-use Rattle.hickory_catalog.specs.requests.Server.{server_of}
+use Rattle.hickory_catalog.specs.requests.Requests.{RequestAnswered}
+use Rattle.hickory_catalog.specs.requests.Server.{Server, server_of}
 use Rattle.hickory_catalog.specs.replies.Signing.{Signer}
 use Rattle.hickory_catalog.specs.zones.Zones.{AreInOrder}
 use Rattle.hickory_catalog.specs.declared.catalog.Catalog.{Catalog}
 use Rattle.hickory_server.specs.server.Above.{FindsAbove, IsAskedAbove}
+use Rattle.hickory_server.specs.server.Fitted.{truncated}
 use Rattle.hickory_server.specs.server.FormErrors.{IsFormError}
 use Rattle.hickory_server.specs.server.Ruling.{IsResponse, IsRuling, MayUse, udp_limit}
-use Rattle.hickory_server.specs.server.ServedBy.{AreSent, ServedBy}
-use Rattle.hickory_server.specs.server.Serving.{IsRequestOf, StepOver}
+use Rattle.hickory_server.specs.server.Sending.{IsSentAs, sending_of}
+use Rattle.hickory_server.specs.server.ServedBy.{ServedBy}
+use Rattle.hickory_server.specs.server.Serving.{IsRequestOf}
+use Rattle.hickory_server.specs.server.Written.{IsEncoding}
 use Rattle.hickory_server.specs.declared.server.answer.Answer.{Answer}
 use Rattle.hickory_server.specs.declared.server.answer.Answer.TheVariants.{Denied, Replies}
 use Rattle.hickory_server.specs.declared.server.rules.Rules.{Rules}
 use Rattle.hickory_server.specs.declared.server.rules.Ruling.TheVariants.{Pass}
 use Rattle.hickory_server.specs.declared.server.serve.Incoming.{Incoming}
-use Rattle.hickory_server.specs.declared.server.serve.Outcome.{Outcome}
-use Rattle.hickory_server.specs.declared.server.serve.Outcome.TheVariants as outcomes
 
 -- A message is let through: it is no shorter than a header, is itself no response, and as whatever request it is read,
 -- it passes and asks no zone above.
@@ -39,18 +38,19 @@ pub record IsLetThrough {V : Type 0} (rules : Rules) (zones : List (DomainName �
   pub passes : (request : ReceivedRequest) → IsRequestOf message request → IsRuling rules request Pass
   pub not_above : (request : ReceivedRequest) → IsRequestOf message request → FindsAbove zones request.message None
 
--- What is sent of what becomes of a message without rules.
-abbrev pub IsSent : Rules → Incoming → Outcome → Answer → Type 0
-IsSent rules message outcomes.Denied answer = answer ≡ Denied
-IsSent rules message outcomes.Unreadable answer = IsFormError message.bytes.items answer
-IsSent rules message (outcomes.Replies replies) answer = (request : ReceivedRequest) × (sent : List (List ℕ)) × IsRequestOf message request × AreSent rules request replies sent × (answer ≡ Replies sent)
+-- What becomes of a message that is let through, and the zones after it.
+pub data LetThroughStep {H : Type 0} (rules : Rules) (server : Server H) (message : Incoming) (answer : Answer) (zones : List (DomainName × List H)) : Type 0 where
+  denied : ¬ (MayUse rules message.src) → answer ≡ Denied → zones ≡ server.zones → LetThroughStep rules server message answer zones
+  unreadable : MayUse rules message.src → IsFormError message.bytes.items answer → zones ≡ server.zones → LetThroughStep rules server message answer zones
+  -- Its request is answered as it is without rules.
+  handled : {request : ReceivedRequest} {replies : List Reply} {sent : List (List ℕ)} → MayUse rules message.src → IsRequestOf message request
+      → RequestAnswered server request message.now replies zones → AllZip (IsSentAs (sending_of rules request)) replies sent
+      → answer ≡ Replies sent → LetThroughStep rules server message answer zones
 
--- Of a message that is let through becomes what becomes of it without rules, with its replies encoded as over a stream,
--- and that is sent.
 abbrev pub LetThroughSteps : {S H : Type 0} → Ghosts H → (S → Signer) → Type 0
 LetThroughSteps {S} {H} handler signature_for = (rules : Rules) (catalog : Catalog S H) (message : Incoming) (answer : Answer) (zones : List (DomainName × List H))
     → IsLetThrough rules catalog.zones message → ServedBy rules (server_of handler signature_for catalog) message answer zones
-    → (outcome : Outcome) × StepOver Tcp rules.access (server_of handler signature_for catalog) message outcome zones × IsSent rules message outcome answer
+    → LetThroughStep rules (server_of handler signature_for catalog) message answer zones
 
 -- It gets no reply.
 abbrev pub HasNoReply : Answer → Type 0
@@ -78,10 +78,9 @@ WithinBothLimits {S} {H} handler signature_for = (rules : Rules) (catalog : Cata
 -- What is sent with TC has its OPT record: header, questions and the 11 bytes of an OPT record without options fit the
 -- limit (RFC 6891 section 7), as they do with one question, which has 259 bytes at most, in 512.
 abbrev pub OptHasRoom : Type 0
-OptHasRoom = (limit : ℕ) (request : MessageRequest) (metadata : Metadata) (asked : EdnsFields) (bytes : List ℕ)
-    → request.edns ≡ Some asked → 23 + length request.queries.bytes ≤ limit → IsBare limit request metadata bytes
-    → (header : Header) × ReplyEncoded limit (bare_message metadata request.queries.bytes (length request.queries.queries) (reply_edns None (Some asked))) bytes header
-    × (header.counts.additionals ≡ 1)
+OptHasRoom = (limit : ℕ) (reply : Reply) (edns : EdnsFields) (bytes : List ℕ)
+    → reply.edns ≡ Some edns → 23 + length reply.question ≤ limit → IsEncoding limit (truncated reply) bytes
+    → (header : Header) × ReplyEncoded limit (truncated reply) bytes header × (header.counts.additionals ≡ 1)
 
 -- A request is for this zone: the zone above its apex, if the server asks it for the DS records of that apex (RFC 4035
 -- section 3.1.4.1), and else the zone that answers for its name.

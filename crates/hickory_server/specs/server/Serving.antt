@@ -1,5 +1,5 @@
 -- What becomes of messages that come one after the other.
-use Rattle.std.specs.Prelude.{◌≡◌, ◌<◌, ◌⊎◌, ◌++◌, ◌∷◌, [], ℕ, List}
+use Rattle.std.specs.Prelude.{◌≡◌, ◌<◌, ◌⊎◌, ◌++◌, ◌∷◌, [], ℕ, true, List}
 use Rattle.std.specs.Net.Socket.{socket_ip}
 use Rattle.std.specs.List.{AllZip}
 use Rattle.wire_names.specs.rr.domain.DomainName.{DomainName}
@@ -11,10 +11,11 @@ use Rattle.wire_names.specs.declared.error.ProtoError.{ProtoError}
 use Rattle.server_limits.specs.Access.{AccessSets, IsAllowed}
 use Rattle.hickory_base.specs.requests.RequestReading.{IsFaultOf, IsQuestionSection, message_of}
 use Rattle.hickory_base.specs.requests.Requests.{ReceivedRequest}
-use Rattle.hickory_base.specs.responses.EncodingSinks.{EncodedReplies, IsEncodingOf}
+use Rattle.hickory_base.specs.responses.EncodingSinks.{IsEncodingOf}
 use Rattle.hickory_base.specs.declared.errors.CatalogError.TheVariants.{MemoryAfterUpdate}
 use Rattle.hickory_catalog.specs.requests.Requests.{RequestAnswered, RequestLeaves}
 use Rattle.hickory_catalog.specs.requests.Server.{Server}
+use Rattle.hickory_server.specs.server.Sending.{SentReplies}
 use Rattle.hickory_server.specs.declared.server.serve.Incoming.{Incoming}
 use Rattle.hickory_server.specs.declared.server.serve.Outcome.{Outcome}
 use Rattle.hickory_server.specs.declared.server.serve.Outcome.TheVariants.{Denied, Replies, Unreadable}
@@ -28,6 +29,7 @@ pub record IsRequestOf (message : Incoming) (request : ReceivedRequest) : Type 0
   pub reads : Reads message.bytes.items (message_of request.message)
   pub questions : IsQuestionSection message.bytes.items request.message.queries
   pub raw : request.bytes ≡ message.bytes.items
+  pub was_read : request.was_read ≡ true
   pub source_is : request.source ≡ message.src
   pub protocol_is : request.protocol ≡ message.protocol
 
@@ -58,7 +60,7 @@ pub data Run {H : Type 0} (access : AccessSets) (server : Server H) : List (Doma
 
 -- What is left of a request for which memory was refused: the sink that was to have its replies, which had none before,
 -- and the zones.
-abbrev pub LeavesRequest : {H : Type 0} → Server H → ReceivedRequest → ℕ → EncodedReplies → ServeError → List (DomainName × List H) → Type 0
+abbrev pub LeavesRequest : {H : Type 0} → Server H → ReceivedRequest → ℕ → SentReplies → ServeError → List (DomainName × List H) → Type 0
 -- The sink was handed nothing, and the zones are as before.
 LeavesRequest server request now sink Memory zones = (sink.failures ≡ 0) × (sink.replies ≡ []) × (zones ≡ server.zones)
 -- The request was answered, and the sink failed at a reply; or an update was made, and the sink was handed nothing.
@@ -70,7 +72,7 @@ LeavesRequest server request now sink MemoryAfterHandling zones = ((0 < sink.fai
 abbrev pub LeavesUnserved : {H : Type 0} → AccessSets → Server H → Incoming → ServeError → List (DomainName × List H) → Type 0
 LeavesUnserved access server message Memory zones = IsAllowed access.deny access.allow (socket_ip message.src) × (zones ≡ server.zones)
 LeavesUnserved access server message MemoryAfterHandling zones = IsAllowed access.deny access.allow (socket_ip message.src)
-    × (request : ReceivedRequest) × IsRequestOf message request × (sink : EncodedReplies) × LeavesRequest server request message.now sink MemoryAfterHandling zones
+    × (request : ReceivedRequest) × IsRequestOf message request × (sink : SentReplies) × LeavesRequest server request message.now sink MemoryAfterHandling zones
 
 -- Memory was refused for a message: those before it have their outcomes, and those behind it were not looked at.
 pub record RunFailed {H : Type 0} (access : AccessSets) (server : Server H) (messages : List Incoming) (outcomes : List Outcome) (e : ServeError) (zones : List (DomainName × List H)) : Type 0 where

@@ -24,7 +24,7 @@ bare_message metadata question count edns = record {
   signature = None;
 }
 
--- the reply that says this, with all its authorities in one list, and without a signature
+-- the reply that says this
 abbrev pub said : Contents → Reply
 said contents = record {
   metadata = contents.metadata;
@@ -33,9 +33,9 @@ said contents = record {
   edns = option_copied contents.edns;
   answers = contents.answers.now;
   authorities = contents.authorities.now;
-  soa = [];
+  soa = contents.soa.now;
   additionals = contents.additionals.now;
-  signature = None;
+  signature = option_copied contents.signature;
 }
 
 -- The bytes are an encoding of the reply within the limit.

@@ -6,7 +6,7 @@ use Rattle.hickory_base.specs.zone_store.ZoneAnswers.{MemoryZone}
 use Rattle.hickory_base.specs.declared.zone_store.lookup.WholeReply.{WholeReply}
 use Rattle.hickory_catalog.specs.queries.Queries.{whole_contents}
 use Rattle.hickory_catalog.specs.replies.Replies.{Contents}
-use Rattle.hickory_zone.specs.Replies.{RepliesTo, as_zone}
+use Rattle.zone_replies.specs.Replies.{RepliesTo, as_zone}
 
 -- The server says what the zone replies to the question, and nothing else.
 pub record SaysTheReply (zone : MemoryZone) (request : ReceivedRequest) (query : Query) (contents : Contents) : Type 0 where

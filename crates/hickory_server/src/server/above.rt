@@ -4,21 +4,21 @@ ghost use Rattle.std.specs.Prelude.{◌≡◌, [], List, IfOk, MatchOption, None
 ghost use Rattle.std.specs.List.{AllZip};
 ghost use Rattle.wire_names.specs.rr.domain.DomainName.{DomainName};
 ghost use Rattle.wire_messages.specs.serialize.writing.Reply.{Reply};
-ghost use Rattle.hickory_base.specs.responses.EncodingSinks.{IsEncodingOf};
 ghost use Rattle.hickory_catalog.specs.queries.Queries.{ChainReplies};
 ghost use Rattle.hickory_catalog.specs.replies.ReplyEdns.{reply_edns};
 ghost use Rattle.hickory_catalog.specs.requests.Server.{server_of};
 ghost use Rattle.hickory_server.specs.server.Above.{AsksForDs, FindsAbove, IsAskedAbove};
+ghost use Rattle.hickory_server.specs.server.Sending.{IsSentAs};
 
 use crate::server::rules::question_of;
-use hickory_base::encoding_sink::EncodingSink;
+use crate::server::sending::{Sending, SentSink};
 use hickory_base::message_request::MessageRequest;
 use hickory_base::server::Request;
 use hickory_base::zone_store::ZoneHandler;
 use hickory_catalog::catalog::Catalog;
 use hickory_catalog::laws::replies_taken;
 use hickory_catalog::signer::ReplySigner;
-use hickory_wire::{Items, LowerName, Octets, Protocol};
+use hickory_wire::{Items, LowerName, Octets};
 use std::alloc::{AllocError, Global};
 
 /// The type of the records that a zone above has of a zone below (RFC 4034 section 5).
@@ -68,13 +68,13 @@ fn hand_over_by<S: ReplySigner, H: ZoneHandler>(
     chain: &[H],
     request: &Request,
     now: u64,
-    sink: &mut EncodingSink,
+    sink: &mut SentSink,
 ) -> Result<(), AllocError>
-    requires { sink.old ≡ record { protocol = Protocol.Tcp; replies = []; failures = 0 } }
+    requires { sink.old ≡ record { sending = sink.old.sending; replies = []; failures = 0 } }
     ensures { OnOk result ((replies : List Reply) ×
         ChainReplies (server_of H.ZoneHandler S.signature_for catalog.now) chain.now request.now
         (reply_edns catalog.now.nsid request.now.message.edns) now replies ×
-        AllZip (IsEncodingOf Protocol.Tcp) replies sink.new.replies) }
+        AllZip (IsSentAs sink.old.sending) replies sink.new.replies) }
 {
     match catalog.lookup_by(chain, alloc, request, now, sink) {
         Ok(_) => {}
@@ -84,46 +84,49 @@ fn hand_over_by<S: ReplySigner, H: ZoneHandler>(
     if sink.failures() > 0 {
         return Err(AllocError);
     }
-    replies_taken::<EncodingSink>();
+    replies_taken::<SentSink>();
     Ok(())
 }
 
-/// The bytes of the replies of a chain to a request, in their order, each encoded as over a stream.
+/// What is sent of the replies of a chain to a request, in their order.
 fn replies_by<S: ReplySigner, H: ZoneHandler>(
     alloc: Global,
     catalog: &Catalog<S, H>,
     chain: &[H],
     request: &Request,
     now: u64,
+    sending: Sending,
 ) -> Result<Items<Octets>, AllocError>
-    ensures { IfOk result (λ encoded. (replies : List Reply) ×
+    ensures { IfOk result (λ sent. (replies : List Reply) ×
         ChainReplies (server_of H.ZoneHandler S.signature_for catalog.now) chain.now request.now
         (reply_edns catalog.now.nsid request.now.message.edns) now replies ×
-        AllZip (IsEncodingOf Protocol.Tcp) replies encoded) }
+        AllZip (IsSentAs sending) replies sent) }
 {
-    let mut sink = EncodingSink::new(alloc, Protocol::Tcp);
+    let mut sink = SentSink::reusing(alloc, sending, Items::new(alloc));
     hand_over_by(alloc, catalog, chain, request, now, &mut sink)?;
     Ok(sink.into_replies())
 }
 
-/// The bytes of the replies of the zone above, if a request asks one. It changes nothing, so want of memory leaves
+/// What is sent of the replies of the zone above, if a request asks one. It changes nothing, so want of memory leaves
 /// nothing handled.
 pub(crate) fn replies_from_above<S: ReplySigner, H: ZoneHandler>(
     alloc: Global,
     catalog: &Catalog<S, H>,
     request: &Request,
     now: u64,
+    sending: Sending,
 ) -> Result<Option<Items<Octets>>, AllocError>
     ensures { IfOk result (λ answer. MatchOption answer
         (FindsAbove catalog.now.zones request.now.message None)
-        (λ encoded. (zone : DomainName × List H) × (replies : List Reply) ×
+        (λ sent. (zone : DomainName × List H) × (replies : List Reply) ×
         IsAskedAbove catalog.now.zones request.now.message zone ×
         ChainReplies (server_of H.ZoneHandler S.signature_for catalog.now) zone.1 request.now
         (reply_edns catalog.now.nsid request.now.message.edns) now replies ×
-        AllZip (IsEncodingOf Protocol.Tcp) replies encoded)) }
+        AllZip (IsSentAs sending) replies sent)) }
 {
     let Some(chain) = chain_above(catalog, request)? else {
         return Ok(None);
     };
-    Ok(Some(replies_by(alloc, catalog, chain.as_slice(), request, now)?))
+    let sent = replies_by(alloc, catalog, chain.as_slice(), request, now, sending)?;
+    Ok(Some(sent))
 }

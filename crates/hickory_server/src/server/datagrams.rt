@@ -1,259 +1,215 @@
 //! Replies over UDP: none is longer than its client takes and the server allows.
 
-ghost use Rattle.std.specs.Prelude.{◌≡◌, ◌↔◌, ◌≤◌, ◌⊎◌, ℕ, All, IfOk, IfSome, IsNone, IsTrue, length};
-ghost use Rattle.std.specs.List.{AllZip};
+ghost use Rattle.std.specs.Prelude.{◌≡◌, ◌↔◌, ◌<◌, ◌≤◌, IfOk, IsTrue, MatchOption, false, length, min, option_map, ℕ};
 ghost use Rattle.std.specs.Option.{option_copied};
 ghost use Rattle.hickory_wire.specs.serialize.writing.ReplyParts.{ReplyEncoded};
-ghost use Rattle.hickory_server.specs.server.Fitted.{Fits, HasRoomFor, IsCutTo, IsFitted, IsLongestFront, IsReferral, LacksRoom, front_of, has_name_server};
-ghost use Rattle.hickory_server.specs.server.Written.{IsBare, with_tc};
-ghost use Rattle.hickory_server.specs.server.ServedBy.{AreSent, IsBounded};
+ghost use Rattle.hickory_server.specs.server.Fitted.{HasNoRoom, IsFitted, IsFront, IsLongestFront, IsNoFront, IsReferral, LacksNeeded, LeavesOut, are_parted, ends_set, front_of, has_type, is_of_set, truncated, without_options};
+ghost use Rattle.hickory_server.specs.server.Written.{IsEncoding, said};
 
-use crate::server::rules::Rules;
-use crate::server::writing::{Contents, bare, encoded_with_header};
-use hickory_base::message_request::MessageRequest;
-use hickory_base::server::Request;
-use hickory_wire::{
-    Edns, Header, Items, Metadata, Octets, ProtoError, Protocol, Record, RecordType,
-};
+use crate::server::writing::{Contents, encoded_bare, encoded_with_header};
+use hickory_wire::{Edns, Header, Metadata, Octets, Record, RecordType};
 use std::alloc::{AllocError, Global};
 
-/// The reply to a request that says no more than that the whole is to be had over TCP: TC, its questions, and its OPT
-/// record.
-pub(crate) fn truncated(
-    alloc: Global,
-    request: &MessageRequest,
-    metadata: Metadata,
-    limit: u16,
-) -> Result<Octets, AllocError>
-    requires { 12 ≤ limit }
-    ensures reply { IfOk result (IsBare limit request.now (with_tc metadata)) }
-    ensures within { IfOk result (λ bytes. length bytes ≤ limit) }
+/// Whether there is a record of this type among these.
+fn has_type(records: &[Record], number: u16) -> bool
+    ensures { result ≡ has_type number records.now }
 {
-    let mut metadata = metadata;
-    metadata.truncation = true;
-    bare(alloc, request, metadata, limit)
+    records
+        .iter()
+        .any(|r| r.rdata.record_type().value() == number)
 }
 
-/// Whether there is an NS record among these.
-fn has_name_server(records: &[Record]) -> bool
-    ensures { result ≡ has_name_server records.now }
+/// Whether a reply is a referral (RFC 1034 section 4.3.2 step 3b, RFC 2308 section 2.2).
+fn is_referral(reply: &Contents<'_>) -> bool
+    ensures { IsTrue result ↔ IsReferral (said reply.now) }
 {
-    records.iter().any(|r| r.rdata.record_type().value() == RecordType::NS.value())
+    has_type(reply.authorities, RecordType::NS.value())
+        && !has_type(reply.authorities, RecordType::SOA.value())
+        && !has_type(reply.soa, RecordType::SOA.value())
 }
 
-/// Whether a message is a referral (RFC 1034 section 4.3.2 step 3b).
-fn is_referral(reply: &MessageRequest) -> bool
-    ensures { IsTrue result ↔ IsReferral reply.now }
+/// Whether two records are of one RRset (RFC 2181 section 5).
+fn is_of_set(one: &Record, other: &Record) -> bool
+    ensures { result ≡ is_of_set one.now other.now }
 {
-    !reply.metadata.authoritative
-        && reply.answers.as_slice().is_empty()
-        && has_name_server(reply.authorities.as_slice())
+    one.name == other.name
+        && one.rdata.record_type().value() == other.rdata.record_type().value()
+        && one.dns_class.value() == other.dns_class.value()
 }
 
-/// The header and the bytes of what a message says, with this EDNS and the first so many of its additionals, as far as
-/// there is room. A signature over the longer message would not hold, so there is none.
-fn front(
-    alloc: Global,
-    reply: &MessageRequest,
-    edns: Option<&Edns>,
-    count: usize,
-    limit: u16,
-) -> Result<(Header, Octets), AllocError>
-    requires count { count ≤ length reply.now.additionals }
-    requires header { 12 ≤ limit }
-    ensures front { IfOk result (λ made.
-        ReplyEncoded limit (front_of reply.now (option_copied edns.entry) count) made.1 made.0) }
-    ensures within { IfOk result (λ made. length made.1 ≤ limit) }
+/// Whether the last record before a place and the next one after it are of two RRsets.
+fn are_parted(last: Option<&Record>, next: Option<&Record>) -> bool
+    ensures { result ≡ are_parted (option_copied last.entry) (option_copied next.entry) }
 {
-    let question_count = reply.queries.len() as u16;
-    let contents = Contents {
-        metadata: reply.metadata,
-        question: reply.queries.as_bytes(),
-        question_count,
-        edns,
-        answers: reply.answers.as_slice(),
-        authorities: reply.authorities.as_slice(),
-        additionals: &reply.additionals.as_slice()[..count],
-    };
-    encoded_with_header(alloc, &contents, limit)
-}
-
-/// Whether the bytes of a message are whole and within the limit.
-fn fits(header: &Header, bytes: &Octets, limit: u16) -> bool
-    ensures { IsTrue result ↔ Fits limit header.now bytes.now }
-{
-    !header.metadata.truncation && bytes.len() <= usize::from(limit)
-}
-
-/// The bytes of a message with as many of its additionals as have room beside its OPT record, so many at most, or
-/// `None` if there is no room for it without additionals.
-fn longest(
-    alloc: Global,
-    reply: &MessageRequest,
-    most: usize,
-    limit: u16,
-) -> Result<Option<Octets>, AllocError>
-    requires { most ≤ length reply.now.additionals }
-    ensures front { IfOk result (λ made. IfSome made (IsLongestFront limit reply.now most)) }
-    ensures none { IfOk result (λ made. IsNone made → LacksRoom limit (front_of reply.now reply.now.edns 0)) }
-    ensures within { IfOk result (λ made. IfSome made (λ bytes. length bytes ≤ limit)) }
-{
-    let (header, bytes) = front(alloc, reply, reply.edns.as_ref(), most, u16::MAX)?;
-    if fits(&header, &bytes, limit) {
-        return Ok(Some(bytes));
-    }
-    if most == 0 {
-        return Ok(None);
-    }
-    longest(alloc, reply, most - 1, limit)
-}
-
-/// How many additionals of a message have room without its OPT record.
-fn room_without_edns(alloc: Global, reply: &MessageRequest, limit: u16) -> Result<usize, AllocError>
-    requires { 12 ≤ limit }
-    ensures room { IfOk result (HasRoomFor limit reply.now) }
-    ensures most { IfOk result (λ count. count ≤ length reply.now.additionals) }
-{
-    let len = reply.additionals.as_slice().len();
-    let (header, _) = front(alloc, reply, None, len, limit)?;
-    Ok(usize::from(header.counts.additionals).min(len))
-}
-
-/// The bytes of a message without the additionals that have no room, or `None` if it is a referral, or if there is no
-/// room for it without additionals.
-fn without_additionals(
-    alloc: Global,
-    reply: &MessageRequest,
-    limit: u16,
-) -> Result<Option<Octets>, AllocError>
-    requires { 12 ≤ limit }
-    ensures front { IfOk result (λ made. IfSome made (λ bytes. (most : ℕ) × ¬ (IsReferral reply.now) ×
-        HasRoomFor limit reply.now most × IsLongestFront limit reply.now most bytes)) }
-    ensures none { IfOk result (λ made. IsNone made →
-        IsReferral reply.now ⊎ LacksRoom limit (front_of reply.now reply.now.edns 0)) }
-    ensures within { IfOk result (λ made. IfSome made (λ bytes. length bytes ≤ limit)) }
-{
-    if is_referral(reply) {
-        return Ok(None);
-    }
-    // If answers have no room, it is found at once, whatever the number of additionals.
-    let (header, least) = front(alloc, reply, reply.edns.as_ref(), 0, u16::MAX)?;
-    if !fits(&header, &least, limit) {
-        return Ok(None);
-    }
-    let most = room_without_edns(alloc, reply, limit)?;
-    longest(alloc, reply, most, limit)
-}
-
-/// What is sent in the place of a message.
-fn cut_to(
-    alloc: Global,
-    request: &MessageRequest,
-    reply: &MessageRequest,
-    limit: u16,
-) -> Result<Octets, AllocError>
-    requires { 12 ≤ limit }
-    ensures cut { IfOk result (IsCutTo limit request.now reply.now) }
-    ensures within { IfOk result (λ bytes. length bytes ≤ limit) }
-{
-    match without_additionals(alloc, reply, limit)? {
-        Some(bytes) => Ok(bytes),
-        None => truncated(alloc, request, reply.metadata, limit),
-    }
-}
-
-/// What is sent in the place of a longer reply.
-fn cut(alloc: Global, request: &Request, reply: Octets, limit: u16) -> Result<Octets, AllocError>
-    requires { 12 ≤ limit }
-    ensures cut { IfOk result (IsFitted limit request.now.message reply) }
-    ensures within { IfOk result (λ bytes. length bytes ≤ limit) }
-{
-    let message = request.message();
-    let read = Request::from_bytes(alloc, reply.into_vec(), request.src(), Protocol::Udp);
-    let shorter = match &read {
-        Ok(reply) => cut_to(alloc, message, reply.message(), limit),
-        Err(ProtoError::Memory) => Err(AllocError),
-        // A record stands in it that no answer section is read with, as SIG.
-        Err(_) => {
-            let metadata = Metadata::response_from_request(&message.metadata);
-            truncated(alloc, message, metadata, limit)
-        }
-    };
-    drop(read);
-    shorter
-}
-
-/// A reply within the limit: itself, or what is sent in its place.
-fn bounded(
-    alloc: Global,
-    request: &Request,
-    reply: Octets,
-    limit: u16,
-) -> Result<Octets, AllocError>
-    requires { 12 ≤ limit }
-    ensures { IfOk result (IsBounded limit request.now.message reply) }
-{
-    if reply.len() <= usize::from(limit) {
-        return Ok(reply);
-    }
-    cut(alloc, request, reply, limit)
-}
-
-/// Replies within the limit, each itself, or what is sent in its place.
-fn bounded_replies(
-    alloc: Global,
-    request: &Request,
-    replies: Items<Octets>,
-    limit: u16,
-) -> Result<Items<Octets>, AllocError>
-    requires { 12 ≤ limit }
-    ensures { IfOk result (AllZip (IsBounded limit request.now.message) replies) }
-{
-    let mut within = Items::new(alloc);
-    for reply in replies.into_vec() {
-        within.push(bounded(alloc, request, reply, limit)?)?;
-    }
-    Ok(within)
-}
-
-/// Whether all replies are within the limit.
-fn are_within(replies: &[Octets], limit: u16) -> bool
-    ensures { IsTrue result → All (λ bytes. length bytes ≤ limit) replies.now }
-{
-    for reply in replies {
-        if reply.len() > usize::from(limit) {
-            return false;
-        }
-    }
-    true
-}
-
-/// Whether replies to a request are sent as they are: over a stream, and where all are within the limit.
-// speed: served, an address
-#[inline(always)]
-pub(crate) fn are_as_sent(rules: &Rules, request: &Request, replies: &[Octets]) -> bool
-    ensures { IsTrue result → AreSent rules.now request.now replies.now replies.now }
-{
-    match request.protocol() {
-        Protocol::Udp => are_within(replies, rules.datagram_limit(request)),
+    match (last, next) {
+        (Some(last), Some(next)) => !is_of_set(last, next),
         _ => true,
     }
 }
 
-/// What is sent of replies to a request: over UDP each within the limit, and over a stream each as it is. It takes no
-/// memory where all are within it.
-pub(crate) fn sent(
-    alloc: Global,
-    rules: &Rules,
-    request: &Request,
-    replies: Items<Octets>,
-) -> Result<Items<Octets>, AllocError>
-    ensures { IfOk result (AreSent rules.now request.now replies) }
+/// Whether so many of these records have no part of an RRset.
+fn ends_set(records: &[Record], count: usize) -> bool
+    requires { count ≤ length records.now }
+    ensures { result ≡ ends_set records.now count }
 {
-    let limit = rules.datagram_limit(request);
-    match request.protocol() {
-        Protocol::Udp if are_within(replies.as_slice(), limit) => Ok(replies),
-        Protocol::Udp => bounded_replies(alloc, request, replies, limit),
-        _ => Ok(replies),
+    let (front, behind) = records.split_at(count);
+    are_parted(front.last(), behind.first())
+}
+
+/// Whether a record is left out of the encoding that has this header.
+#[inline(always)]
+fn leaves_out(reply: &Metadata, header: &Header) -> bool
+    ensures { IsTrue result ↔ LeavesOut reply.now header.now }
+{
+    header.metadata.truncation && !reply.truncation
+}
+
+/// The header and the bytes of a reply with the first so many of its additionals, as far as there is room. A signature
+/// over the longer message would not hold, so there is none.
+fn front(
+    alloc: Global,
+    reply: &Contents<'_>,
+    count: usize,
+    limit: u16,
+) -> Result<(Header, Octets), AllocError>
+    requires { count ≤ length reply.now.additionals.now }
+    ensures { IfOk result (λ made. ReplyEncoded limit (front_of (said reply.now) count) made.1 made.0) }
+{
+    let contents = Contents {
+        metadata: reply.metadata,
+        question: reply.question,
+        question_count: reply.question_count,
+        edns: reply.edns,
+        answers: reply.answers,
+        authorities: reply.authorities,
+        soa: reply.soa,
+        additionals: &reply.additionals[..count],
+        signature: None,
+    };
+    encoded_with_header(alloc, &contents, limit)
+}
+
+/// The bytes of a reply with the first so many of its additionals, if there is room for them and they have no part of
+/// an RRset.
+fn whole_front(
+    alloc: Global,
+    reply: &Contents<'_>,
+    count: usize,
+    limit: u16,
+) -> Result<Option<Octets>, AllocError>
+    requires { count ≤ length reply.now.additionals.now }
+    ensures { IfOk result (λ made.
+        MatchOption made (IsNoFront limit (said reply.now) count) (IsFront limit (said reply.now) count)) }
+{
+    if !ends_set(reply.additionals, count) {
+        return Ok(None);
     }
+    let (header, bytes) = front(alloc, reply, count, limit)?;
+    if leaves_out(&reply.metadata, &header) {
+        return Ok(None);
+    }
+    Ok(Some(bytes))
+}
+
+/// The bytes of a reply with as many RRsets of its additionals as have room, and with so many records at most, or
+/// `None` if there is no room for it without additionals.
+fn longest(
+    alloc: Global,
+    reply: &Contents<'_>,
+    most: usize,
+    limit: u16,
+) -> Result<Option<Octets>, AllocError>
+    requires { most ≤ length reply.now.additionals.now }
+    ensures { IfOk result (λ made.
+        MatchOption made (IsNoFront limit (said reply.now) 0) (IsLongestFront limit (said reply.now) most)) }
+{
+    let mut count = most;
+    'fronts: loop {
+        if let Some(bytes) = whole_front(alloc, reply, count, limit)? {
+            return Ok(Some(bytes));
+        }
+        if count == 0 {
+            return Ok(None);
+        }
+        count -= 1;
+    }
+}
+
+/// Whether a reply with this header lacks an answer or an authority, or is a referral.
+fn lacks_needed(reply: &Contents<'_>, header: &Header) -> bool
+    ensures lacks { IsTrue result → (limit : ℕ) → LacksNeeded limit (said reply.now) header.now }
+    ensures has { result ≡ false → ¬ (IsReferral (said reply.now)) }
+{
+    let authorities = reply.authorities.len().saturating_add(reply.soa.len());
+    usize::from(header.counts.answers) < reply.answers.len()
+        || usize::from(header.counts.authorities) < authorities
+        || is_referral(reply)
+}
+
+/// What an OPT record says of the same server, without options.
+fn without_options(alloc: Global, edns: Option<&Edns>) -> Option<Edns>
+    ensures { result ≡ option_map without_options (option_copied edns.entry) }
+{
+    let Some(edns) = edns else {
+        return None;
+    };
+    let mut bare = Edns::new(alloc);
+    bare.set_max_payload(edns.max_payload());
+    bare.set_rcode_high(edns.rcode_high());
+    bare.set_version(edns.version());
+    bare.set_dnssec_ok(edns.dnssec_ok());
+    Some(bare)
+}
+
+/// The header of a reply with TC, its questions and its OPT record: the whole reply is to be had over TCP.
+fn truncated(alloc: Global, reply: &Contents<'_>, limit: u16) -> Result<Octets, AllocError>
+    ensures { IfOk result (IsEncoding limit (truncated (said reply.now))) }
+{
+    let mut metadata = reply.metadata;
+    metadata.truncation = true;
+    let edns = without_options(alloc, reply.edns);
+    let (question, count) = (reply.question, reply.question_count);
+    let made = encoded_bare(alloc, metadata, question, count, edns.as_ref(), limit);
+    drop(edns);
+    made
+}
+
+/// What is sent of a reply that has no room, by the header of its encoding.
+#[inline(never)]
+fn cut(
+    alloc: Global,
+    reply: &Contents<'_>,
+    header: &Header,
+    limit: u16,
+) -> Result<Octets, AllocError>
+    requires { HasNoRoom limit (said reply.now) header.now }
+    ensures { IfOk result (IsFitted limit (said reply.now)) }
+{
+    if lacks_needed(reply, header) {
+        return truncated(alloc, reply, limit);
+    }
+    let most = usize::from(header.counts.additionals).min(reply.additionals.len());
+    match longest(alloc, reply, most, limit)? {
+        Some(bytes) => Ok(bytes),
+        None => truncated(alloc, reply, limit),
+    }
+}
+
+/// What is sent of a reply whose encoding within the limit has this header and these bytes.
+// speed: served, an address
+#[inline(always)]
+pub(crate) fn fitted(
+    alloc: Global,
+    reply: &Contents<'_>,
+    header: &Header,
+    bytes: Octets,
+    limit: u16,
+) -> Result<Octets, AllocError>
+    requires { ReplyEncoded limit (said reply.now) bytes header.now }
+    ensures { IfOk result (IsFitted limit (said reply.now)) }
+{
+    if leaves_out(&reply.metadata, header) {
+        return cut(alloc, reply, header, limit);
+    }
+    Ok(bytes)
 }

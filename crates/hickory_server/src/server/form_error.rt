@@ -6,7 +6,7 @@ ghost use Rattle.hickory_server.specs.server.FormErrors.{IsFormError, IsHeaderAl
 
 use crate::server::answer::Answer;
 use crate::server::serve::ServeError;
-use crate::server::writing::{encoded, error_metadata, without_records};
+use crate::server::writing::{encoded_bare, error_metadata};
 use hickory_wire::{Header, Items, Metadata, Octets, ResponseCode};
 use std::alloc::{AllocError, Global};
 use wire_reading::serialize::reading::decoder::BinDecoder;
@@ -29,7 +29,7 @@ fn header_of(bytes: &[u8]) -> Option<Header>
 fn header_alone(alloc: Global, metadata: Metadata) -> Result<Octets, AllocError>
     ensures { IfOk result (IsHeaderAlone metadata) }
 {
-    encoded(alloc, &without_records(metadata, &[], 0, None), LEAST_LIMIT)
+    encoded_bare(alloc, metadata, &[], 0, None, LEAST_LIMIT)
 }
 
 /// FORMERR to a message. A message that is shorter than a header gets no reply.

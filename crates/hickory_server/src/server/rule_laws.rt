@@ -8,9 +8,9 @@ use hickory_catalog::signer::ReplySigner;
 use hickory_wire::encoder_laws::{what_fits_is_whole, what_is_written_keeps_the_limit};
 use hickory_wire::message_laws::one_message;
 
-/// What becomes of a message by the rules of a server. A message that they let through comes to what `serve` makes of
-/// it with replies as over a stream, so that what holds of that holds here too; a response, and what is shorter than a
-/// header, has no reply; over UDP a reply is within both limits; and each zone is served as if it were the only one.
+/// What becomes of a message by the rules of a server. A message that they let through is answered as `serve` answers
+/// it, so that what holds of that holds here too; a response, and what is shorter than a header, has no reply; over UDP
+/// a reply is within both limits; and each zone is served as if it were the only one.
 pub fn messages_by_rules<S: ReplySigner, H: ZoneHandler>()
     ensures steps { LetThroughSteps H.ZoneHandler S.signature_for }
     ensures responses { NoReplyToResponses H.ZoneHandler S.signature_for }

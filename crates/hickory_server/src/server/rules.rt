@@ -4,7 +4,9 @@ ghost use Rattle.std.specs.Prelude.{◌≡◌, ◌≢◌, ◌↔◌, ◌≤◌, 
 ghost use Rattle.wire_messages.specs.declared.op.query.Query.{Query};
 ghost use Rattle.server_limits.specs.Access.{Network};
 ghost use Rattle.hickory_server.specs.server.Ruling.{Asks, AsksForTransfer, IsIncremental, IsOfServedClass, IsQuery, IsRefusedUpdate, IsResponse, IsRuling, IsTransfer, datagram_limit, udp_limit};
+ghost use Rattle.hickory_server.specs.server.Sending.{sending_of};
 
+use crate::server::sending::Sending;
 use hickory_base::access::AccessControl;
 use hickory_base::message_request::MessageRequest;
 use hickory_base::server::Request;
@@ -157,6 +159,18 @@ impl Rules {
         ensures header { 12 ≤ result }
     {
         request.message().max_payload().min(self.udp_limit())
+    }
+
+    /// How the replies to a request are sent: over UDP each within the limit, and over a stream each whole.
+    // speed: served, an address
+    #[inline(always)]
+    pub(crate) fn sending(&self, request: &Request) -> Sending
+        ensures { result ≡ sending_of self.now request.now }
+    {
+        match request.protocol() {
+            Protocol::Udp => Sending::Fitted(self.datagram_limit(request)),
+            _ => Sending::Encoded(Protocol::Tcp),
+        }
     }
 
     /// What becomes of a query whose one question this is.

@@ -3,16 +3,16 @@
 ghost use Rattle.std.specs.Prelude.{◌≡◌, List, [], IfOk, IfErr, OnOk};
 ghost use Rattle.std.specs.List.{AllZip};
 ghost use Rattle.wire_messages.specs.serialize.writing.Reply.{Reply};
-ghost use Rattle.hickory_base.specs.responses.EncodingSinks.{EncodedReplies, IsEncodingOf};
 ghost use Rattle.hickory_catalog.specs.requests.Requests.{RequestAnswered};
 ghost use Rattle.hickory_catalog.specs.requests.Server.{server_of};
 ghost use Rattle.hickory_catalog.specs.zones.Zones.{AreInOrder};
 ghost use Rattle.hickory_server.specs.server.DecodedOutcomes.{AnswersReadBack, OneQuestionHasRoom, StepsReadBack};
 ghost use Rattle.hickory_server.specs.server.Isolation.{BesideIsARun, EachRunIsBeside, EachRunIsIsolated, OneWayBeside, StepIsAlone, StepLeavesOthers, ZonesAreIsolated};
+ghost use Rattle.hickory_server.specs.server.Sending.{IsSentAs, SentReplies};
 ghost use Rattle.hickory_server.specs.server.Serving.{LeavesRequest, LeavesUnserved, Run, RunFailed, Step};
 
+use crate::server::sending::{Sending, SentSink};
 use hickory_base::access::AccessControl;
-pub use hickory_base::encoding_sink::EncodingSink;
 use hickory_base::errors::CatalogError;
 use hickory_base::request_laws::repeatable_questions;
 use hickory_base::server::{Request, RequestHandler};
@@ -69,14 +69,14 @@ fn hand_over<S: ReplySigner, H: ZoneHandler>(
     catalog: &mut Catalog<S, H>,
     request: &Request,
     now: u64,
-    sink: &mut EncodingSink,
+    sink: &mut SentSink,
 ) -> Result<(), ServeError>
-    requires { sink.old ≡ record { protocol = sink.old.protocol; replies = []; failures = 0 } }
+    requires { sink.old ≡ record { sending = sink.old.sending; replies = []; failures = 0 } }
     ensures others { catalog.new ≡ record catalog.old { zones = catalog.new.zones } }
     ensures ok { OnOk result ((replies : List Reply) ×
         RequestAnswered (server_of H.ZoneHandler S.signature_for catalog.old) request.now now replies
         catalog.new.zones ×
-        AllZip (IsEncodingOf sink.old.protocol) replies sink.new.replies) }
+        AllZip (IsSentAs sink.old.sending) replies sink.new.replies) }
     ensures err { IfErr result (λ e.
         LeavesRequest (server_of H.ZoneHandler S.signature_for catalog.old) request.now now sink.new e
         catalog.new.zones) }
@@ -90,29 +90,28 @@ fn hand_over<S: ReplySigner, H: ZoneHandler>(
     if sink.failures() > 0 {
         return Err(ServeError::MemoryAfterHandling);
     }
-    replies_taken::<EncodingSink>();
+    replies_taken::<SentSink>();
     Ok(())
 }
 
-/// The bytes of the replies to a request, in their order, each encoded at the limit of a transport, in the memory of
-/// other replies.
+/// What is sent of the replies to a request, in their order, in the memory of other replies.
 pub(crate) fn replies_to<S: ReplySigner, H: ZoneHandler>(
     alloc: Global,
     catalog: &mut Catalog<S, H>,
     request: &Request,
     now: u64,
-    over: Protocol,
+    sending: Sending,
     spare: Items<Octets>,
 ) -> Result<Items<Octets>, ServeError>
     ensures others { catalog.new ≡ record catalog.old { zones = catalog.new.zones } }
-    ensures ok { IfOk result (λ encoded. (replies : List Reply) ×
+    ensures ok { IfOk result (λ sent. (replies : List Reply) ×
         RequestAnswered (server_of H.ZoneHandler S.signature_for catalog.old) request.now now replies
         catalog.new.zones ×
-        AllZip (IsEncodingOf over) replies encoded) }
-    ensures err { IfErr result (λ e. (sink : EncodedReplies) ×
+        AllZip (IsSentAs sending) replies sent) }
+    ensures err { IfErr result (λ e. (sink : SentReplies) ×
         LeavesRequest (server_of H.ZoneHandler S.signature_for catalog.old) request.now now sink e catalog.new.zones) }
 {
-    let mut sink = EncodingSink::reusing(alloc, over, spare);
+    let mut sink = SentSink::reusing(alloc, sending, spare);
     hand_over(alloc, catalog, request, now, &mut sink)?;
     Ok(sink.into_replies())
 }
@@ -147,7 +146,8 @@ pub fn serve<S: ReplySigner, H: ZoneHandler>(
     let read = Request::from_bytes(alloc, bytes, src, protocol);
     let outcome = match &read {
         Ok(request) => {
-            match replies_to(alloc, catalog, request, now, protocol, Items::new(alloc)) {
+            let sending = Sending::Encoded(protocol);
+            match replies_to(alloc, catalog, request, now, sending, Items::new(alloc)) {
                 Ok(replies) => Ok(Outcome::Replies(replies)),
                 Err(e) => Err(e),
             }

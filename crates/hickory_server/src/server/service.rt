@@ -1,29 +1,30 @@
 //! A server: the rules that it holds messages to, and the zones that it answers for.
 
-ghost use Rattle.std.specs.Prelude.{◌≡◌, ◌⊎◌, ◌∷◌, [], List, ℕ, IfErr, IfOk, MatchOption, None, Ok, OnOk};
+ghost use Rattle.std.specs.Prelude.{◌≡◌, ◌≢◌, ◌⊎◌, ◌∷◌, [], List, ℕ, IfErr, IfOk, MatchOption, None, Ok, OnOk};
 ghost use Rattle.std.specs.List.{AllZip};
 ghost use Rattle.std.specs.Net.Socket.{socket_ip};
 ghost use Rattle.std.specs.Option.{option_copied};
 ghost use Rattle.wire_messages.specs.declared.op.query.Query.{Query};
 ghost use Rattle.wire_messages.specs.serialize.writing.Reply.{Reply};
-ghost use Rattle.hickory_base.specs.responses.EncodingSinks.{EncodedReplies, IsEncodingOf};
+ghost use Rattle.hickory_base.specs.requests.RequestReading.{IsFaultOf};
 ghost use Rattle.hickory_catalog.specs.replies.Replies.{error_reply};
 ghost use Rattle.hickory_catalog.specs.replies.ReplyEdns.{reply_edns};
 ghost use Rattle.hickory_catalog.specs.requests.Server.{server_of};
 ghost use Rattle.hickory_catalog.specs.transfers.WholeTransfers.{TransferReplies};
 ghost use Rattle.hickory_server.specs.server.Above.{FindsAbove};
 ghost use Rattle.hickory_server.specs.server.Ruling.{IsQuery, IsRuling, IsUpdate, code_of_refusal, refusal};
-ghost use Rattle.hickory_server.specs.server.ServedBy.{AreSent, BytesServed, LeavesBytes, RequestServed, arrival};
+ghost use Rattle.hickory_server.specs.server.Sending.{IsSentAs, SentReplies};
+ghost use Rattle.hickory_server.specs.server.ServedBy.{BytesServed, IsReadFrom, IsToBeServed, LeavesBytes, RequestServed, arrival, arrival_of};
 ghost use Rattle.hickory_server.specs.server.Serving.{LeavesRequest};
 
 use crate::server::above::{ds_name, replies_from_above};
 use crate::server::answer::Answer;
-use crate::server::datagrams::{are_as_sent, sent, truncated};
 use crate::server::form_error::form_error;
 use crate::server::no_keys::NoKeys;
 use crate::server::rules::{Rules, Ruling, is_response};
+use crate::server::sending::{Sending, SentSink};
 use crate::server::serve::{ServeError, replies_to};
-use hickory_base::encoding_sink::EncodingSink;
+use crate::server::writing::bare;
 use hickory_base::server::Request;
 use hickory_base::zone_store::{InMemoryZoneHandler, ZoneHandler};
 use hickory_catalog::catalog::Catalog;
@@ -49,16 +50,17 @@ fn copied(alloc: Global, nsid: Option<&NSIDPayload>) -> Result<Option<NSIDPayloa
     }
 }
 
-/// The reply to a request that is refused. It is that of a catalog without zones.
+/// What is sent of the reply to a request that is refused, which is that of a catalog without zones.
 fn refused(
     alloc: Global,
     nsid: Option<&NSIDPayload>,
     request: &Request,
     now: u64,
+    sending: Sending,
 ) -> Result<Items<Octets>, AllocError>
     requires { (query : Query) × (IsQuery request.now.message query ⊎ IsUpdate request.now.message query) }
-    ensures { IfOk result (λ encoded. (bytes : List ℕ) × (encoded ≡ bytes ∷ []) ×
-        IsEncodingOf Protocol.Tcp
+    ensures { IfOk result (λ sent. (bytes : List ℕ) × (sent ≡ bytes ∷ []) ×
+        IsSentAs sending
         (error_reply request.now.message (reply_edns (option_copied nsid.entry) request.now.message.edns)
         (code_of_refusal request.now.message)) bytes) }
 {
@@ -69,10 +71,10 @@ fn refused(
         &mut nothing,
         request,
         now,
-        Protocol::Tcp,
+        sending,
         Items::new(alloc),
     ) {
-        Ok(replies) => Ok(replies),
+        Ok(sent) => Ok(sent),
         Err(_) => Err(AllocError),
     }
 }
@@ -87,13 +89,11 @@ fn refuse<S: ReplySigner, H: ZoneHandler>(
     now: u64,
 ) -> Result<Items<Octets>, AllocError>
     requires { IsRuling rules.now request.now Ruling.Refuse }
-    ensures { IfOk result (λ sent. (encoded : List (List ℕ)) ×
-        RequestServed rules.now (server_of H.ZoneHandler S.signature_for catalog.now) request.now now encoded
-        catalog.now.zones ×
-        AreSent rules.now request.now encoded sent) }
+    ensures { IfOk result (λ sent.
+        RequestServed rules.now (server_of H.ZoneHandler S.signature_for catalog.now) request.now now sent
+        catalog.now.zones) }
 {
-    let replies = refused(alloc, catalog.nsid(), request, now)?;
-    sent(alloc, rules, request, replies)
+    refused(alloc, catalog.nsid(), request, now, rules.sending(request))
 }
 
 /// What is sent to a request that is truncated.
@@ -106,16 +106,16 @@ fn truncate<S: ReplySigner, H: ZoneHandler>(
     now: u64,
 ) -> Result<Items<Octets>, AllocError>
     requires { IsRuling rules.now request.now Ruling.Truncate }
-    ensures { IfOk result (λ sent. (encoded : List (List ℕ)) ×
-        RequestServed rules.now (server_of H.ZoneHandler S.signature_for catalog.now) request.now now encoded
-        catalog.now.zones ×
-        AreSent rules.now request.now encoded sent) }
+    ensures { IfOk result (λ sent.
+        RequestServed rules.now (server_of H.ZoneHandler S.signature_for catalog.now) request.now now sent
+        catalog.now.zones) }
 {
     let message = request.message();
-    let metadata = Metadata::response_from_request(&message.metadata);
+    let mut metadata = Metadata::response_from_request(&message.metadata);
+    metadata.truncation = true;
     let mut replies = Items::new(alloc);
-    replies.push(truncated(alloc, message, metadata, u16::MAX)?)?;
-    sent(alloc, rules, request, replies)
+    replies.push(bare(alloc, message, metadata, rules.datagram_limit(request))?)?;
+    Ok(replies)
 }
 
 /// Hands the replies to a request by a transfer of the whole zone to a sink that has none.
@@ -124,13 +124,13 @@ fn hand_transfer_over<S: ReplySigner, H: ZoneHandler>(
     catalog: &Catalog<S, H>,
     request: &Request,
     now: u64,
-    sink: &mut EncodingSink,
+    sink: &mut SentSink,
 ) -> Result<(), AllocError>
-    requires { sink.old ≡ record { protocol = Protocol.Tcp; replies = []; failures = 0 } }
+    requires { sink.old ≡ record { sending = sink.old.sending; replies = []; failures = 0 } }
     ensures { OnOk result ((replies : List Reply) ×
         TransferReplies (server_of H.ZoneHandler S.signature_for catalog.now) request.now
         (reply_edns catalog.now.nsid request.now.message.edns) now replies ×
-        AllZip (IsEncodingOf Protocol.Tcp) replies sink.new.replies) }
+        AllZip (IsSentAs sink.old.sending) replies sink.new.replies) }
 {
     match catalog.transfer(alloc, request, now, sink) {
         Ok(_) => {}
@@ -140,23 +140,24 @@ fn hand_transfer_over<S: ReplySigner, H: ZoneHandler>(
     if sink.failures() > 0 {
         return Err(AllocError);
     }
-    replies_taken::<EncodingSink>();
+    replies_taken::<SentSink>();
     Ok(())
 }
 
-/// The bytes of the replies to a request by a transfer of the whole zone, in their order.
+/// What is sent of the replies to a request by a transfer of the whole zone, in their order.
 fn transfer_replies<S: ReplySigner, H: ZoneHandler>(
     alloc: Global,
     catalog: &Catalog<S, H>,
     request: &Request,
     now: u64,
+    sending: Sending,
 ) -> Result<Items<Octets>, AllocError>
-    ensures { IfOk result (λ encoded. (replies : List Reply) ×
+    ensures { IfOk result (λ sent. (replies : List Reply) ×
         TransferReplies (server_of H.ZoneHandler S.signature_for catalog.now) request.now
         (reply_edns catalog.now.nsid request.now.message.edns) now replies ×
-        AllZip (IsEncodingOf Protocol.Tcp) replies encoded) }
+        AllZip (IsSentAs sending) replies sent) }
 {
-    let mut sink = EncodingSink::new(alloc, Protocol::Tcp);
+    let mut sink = SentSink::reusing(alloc, sending, Items::new(alloc));
     hand_transfer_over(alloc, catalog, request, now, &mut sink)?;
     Ok(sink.into_replies())
 }
@@ -172,13 +173,11 @@ fn transferred<S: ReplySigner, H: ZoneHandler>(
     now: u64,
 ) -> Result<Items<Octets>, AllocError>
     requires { IsRuling rules.now request.now Ruling.Transfer }
-    ensures { IfOk result (λ sent. (encoded : List (List ℕ)) ×
-        RequestServed rules.now (server_of H.ZoneHandler S.signature_for catalog.now) request.now now encoded
-        catalog.now.zones ×
-        AreSent rules.now request.now encoded sent) }
+    ensures { IfOk result (λ sent.
+        RequestServed rules.now (server_of H.ZoneHandler S.signature_for catalog.now) request.now now sent
+        catalog.now.zones) }
 {
-    let replies = transfer_replies(alloc, catalog, request, now)?;
-    sent(alloc, rules, request, replies)
+    transfer_replies(alloc, catalog, request, now, rules.sending(request))
 }
 
 /// Want of memory before anything was handled.
@@ -205,23 +204,13 @@ fn passed<S: ReplySigner, H: ZoneHandler>(
     requires passes { IsRuling rules.now request.now Ruling.Pass }
     requires not_above { FindsAbove catalog.old.zones request.now.message None }
     ensures others { catalog.new ≡ record catalog.old { zones = catalog.new.zones } }
-    ensures ok { IfOk result (λ sent. (encoded : List (List ℕ)) ×
-        RequestServed rules.now (server_of H.ZoneHandler S.signature_for catalog.old) request.now now encoded
-        catalog.new.zones ×
-        AreSent rules.now request.now encoded sent) }
-    ensures err { IfErr result (λ e. (sink : EncodedReplies) ×
+    ensures ok { IfOk result (λ sent.
+        RequestServed rules.now (server_of H.ZoneHandler S.signature_for catalog.old) request.now now sent
+        catalog.new.zones) }
+    ensures err { IfErr result (λ e. (sink : SentReplies) ×
         LeavesRequest (server_of H.ZoneHandler S.signature_for catalog.old) request.now now sink e catalog.new.zones) }
 {
-    // Whole: what has no room over UDP is left out after it is known which records these are.
-    let replies = replies_to(alloc, catalog, request, now, Protocol::Tcp, spare)?;
-    // speed: served, an address
-    if are_as_sent(rules, request, replies.as_slice()) {
-        return Ok(replies);
-    }
-    match sent(alloc, rules, request, replies) {
-        Ok(sent) => Ok(sent),
-        Err(_) => Err(ServeError::MemoryAfterHandling),
-    }
+    replies_to(alloc, catalog, request, now, rules.sending(request), spare)
 }
 
 /// What is sent to a request that passes and asks a zone above, if it asks one.
@@ -234,15 +223,11 @@ fn from_above<S: ReplySigner, H: ZoneHandler>(
 ) -> Result<Option<Items<Octets>>, AllocError>
     requires { IsRuling rules.now request.now Ruling.Pass }
     ensures { IfOk result (λ answer. MatchOption answer (FindsAbove catalog.now.zones request.now.message None)
-        (λ sent. (encoded : List (List ℕ)) ×
-        RequestServed rules.now (server_of H.ZoneHandler S.signature_for catalog.now) request.now now encoded
-        catalog.now.zones ×
-        AreSent rules.now request.now encoded sent)) }
+        (λ sent.
+        RequestServed rules.now (server_of H.ZoneHandler S.signature_for catalog.now) request.now now sent
+        catalog.now.zones)) }
 {
-    let Some(replies) = replies_from_above(alloc, catalog, request, now)? else {
-        return Ok(None);
-    };
-    Ok(Some(sent(alloc, rules, request, replies)?))
+    replies_from_above(alloc, catalog, request, now, rules.sending(request))
 }
 
 /// What is sent to a request that passes and may ask a zone above.
@@ -256,11 +241,10 @@ fn passed_above<S: ReplySigner, H: ZoneHandler>(
 ) -> Result<Items<Octets>, ServeError>
     requires { IsRuling rules.now request.now Ruling.Pass }
     ensures others { catalog.new ≡ record catalog.old { zones = catalog.new.zones } }
-    ensures ok { IfOk result (λ sent. (encoded : List (List ℕ)) ×
-        RequestServed rules.now (server_of H.ZoneHandler S.signature_for catalog.old) request.now now encoded
-        catalog.new.zones ×
-        AreSent rules.now request.now encoded sent) }
-    ensures err { IfErr result (λ e. (sink : EncodedReplies) ×
+    ensures ok { IfOk result (λ sent.
+        RequestServed rules.now (server_of H.ZoneHandler S.signature_for catalog.old) request.now now sent
+        catalog.new.zones) }
+    ensures err { IfErr result (λ e. (sink : SentReplies) ×
         LeavesRequest (server_of H.ZoneHandler S.signature_for catalog.old) request.now now sink e catalog.new.zones) }
 {
     match from_above(alloc, rules, catalog, request, now) {
@@ -280,11 +264,10 @@ fn ruled<S: ReplySigner, H: ZoneHandler>(
     now: u64,
 ) -> Result<Items<Octets>, ServeError>
     ensures others { catalog.new ≡ record catalog.old { zones = catalog.new.zones } }
-    ensures ok { IfOk result (λ sent. (encoded : List (List ℕ)) ×
-        RequestServed rules.now (server_of H.ZoneHandler S.signature_for catalog.old) request.now now encoded
-        catalog.new.zones ×
-        AreSent rules.now request.now encoded sent) }
-    ensures err { IfErr result (λ e. (sink : EncodedReplies) ×
+    ensures ok { IfOk result (λ sent.
+        RequestServed rules.now (server_of H.ZoneHandler S.signature_for catalog.old) request.now now sent
+        catalog.new.zones) }
+    ensures err { IfErr result (λ e. (sink : SentReplies) ×
         LeavesRequest (server_of H.ZoneHandler S.signature_for catalog.old) request.now now sink e catalog.new.zones) }
 {
     match rules.ruling(request) {
@@ -307,11 +290,10 @@ fn answered<S: ReplySigner, H: ZoneHandler>(
     spare: Items<Octets>,
 ) -> Result<Items<Octets>, ServeError>
     ensures others { catalog.new ≡ record catalog.old { zones = catalog.new.zones } }
-    ensures ok { IfOk result (λ sent. (encoded : List (List ℕ)) ×
-        RequestServed rules.now (server_of H.ZoneHandler S.signature_for catalog.old) request.now now encoded
-        catalog.new.zones ×
-        AreSent rules.now request.now encoded sent) }
-    ensures err { IfErr result (λ e. (sink : EncodedReplies) ×
+    ensures ok { IfOk result (λ sent.
+        RequestServed rules.now (server_of H.ZoneHandler S.signature_for catalog.old) request.now now sent
+        catalog.new.zones) }
+    ensures err { IfErr result (λ e. (sink : SentReplies) ×
         LeavesRequest (server_of H.ZoneHandler S.signature_for catalog.old) request.now now sink e catalog.new.zones) }
 {
     match rules.ruling(request) {
@@ -373,9 +355,9 @@ impl<S: ReplySigner, H: ZoneHandler> Server<S, H> {
     /// (RFC 1995 sections 2 and 4). A query for the DS records of the apex of a zone is answered by the zone above it,
     /// if the server has one (RFC 4035 section 3.1.4.1), and else by that zone itself.
     /// Over UDP no reply is longer than the client takes, nor than the limit of the rules. If only additionals have no
-    /// room, which are no glue of a referral, they are left out and TC is clear (RFC 2181 section 9). If anything else
-    /// has no room, the reply has TC, the question and no records. It has its OPT record in any case (RFC 6891 section
-    /// 7).
+    /// room, which are no glue of a referral, whole RRsets of them are left out and TC is clear (RFC 2181 section 9).
+    /// If anything else has no room, the reply has TC, the question and no records. It has its OPT record in any case
+    /// (RFC 6891 section 7).
     ///
     /// # Errors
     ///
@@ -433,15 +415,64 @@ impl<S: ReplySigner, H: ZoneHandler> Server<S, H> {
         if is_response(bytes) {
             return Ok(Answer::Response);
         }
-        match self.request.read_in_place(alloc, bytes, src, protocol) {
+        match self.read(alloc, bytes, src, protocol) {
             Ok(()) => {}
             Err(ProtoError::Memory) => return Err(ServeError::Memory),
             Err(_) => return form_error(alloc, bytes),
         }
-        let catalog = &mut self.catalog;
-        match answered(alloc, &self.rules, catalog, &self.request, now, spare) {
+        match self.serve_request(alloc, now, spare) {
             Ok(sent) => Ok(Answer::Replies(sent)),
             Err(e) => Err(e),
         }
+    }
+
+    /// Reads a message in place of the request that was read last.
+    // speed: served, an address
+    #[inline(always)]
+    pub fn read(
+        &mut self,
+        alloc: Global,
+        bytes: &[u8],
+        src: SocketAddr,
+        protocol: Protocol,
+    ) -> Result<(), ProtoError>
+        ensures kept { (self.new.rules ≡ self.old.rules) × (self.new.catalog ≡ self.old.catalog) }
+        ensures read { IfOk result (λ _. IsReadFrom bytes.now src protocol self.new.request) }
+        ensures fault { IfErr result (λ e. e ≢ ProtoError.Memory → IsFaultOf bytes.now e) }
+    {
+        self.request.read_in_place(alloc, bytes, src, protocol)?;
+        Ok(())
+    }
+
+    /// The request that was read last.
+    pub fn request(&self) -> &Request
+        ensures { result.now ≡ self.now.request }
+    {
+        &self.request
+    }
+
+    /// Serves the request that was read last, as `serve` serves its message: what is sent to it. The memory of these
+    /// replies is used again.
+    // speed: served, an address
+    #[inline(always)]
+    pub fn serve_request(
+        &mut self,
+        alloc: Global,
+        now: u64,
+        spare: Items<Octets>,
+    ) -> Result<Items<Octets>, ServeError>
+        requires { IsToBeServed self.old.rules.access self.old.request }
+        ensures rules { self.new.rules ≡ self.old.rules }
+        ensures request { self.new.request ≡ self.old.request }
+        ensures others { self.new.catalog ≡ record self.old.catalog { zones = self.new.catalog.zones } }
+        ensures ok { IfOk result (λ sent. BytesServed self.old.rules
+            (server_of H.ZoneHandler S.signature_for self.old.catalog)
+            (arrival_of self.old.request now) (Answer.Replies sent) self.new.catalog.zones) }
+        ensures err { IfErr result (λ e. LeavesBytes self.old.rules
+            (server_of H.ZoneHandler S.signature_for self.old.catalog)
+            (arrival_of self.old.request now) e self.new.catalog.zones) }
+    {
+        let catalog = &mut self.catalog;
+        answered(alloc, &self.rules, catalog, &self.request, now, spare)
     }
 }

@@ -1,6 +1,6 @@
 //! How a reply is written.
 
-ghost use Rattle.std.specs.Prelude.{◌≡◌, ◌≤◌, IfOk, None, Some, length, max};
+ghost use Rattle.std.specs.Prelude.{◌≡◌, IfOk, None, Some};
 ghost use Rattle.std.specs.Option.{option_copied};
 ghost use Rattle.hickory_wire.specs.serialize.writing.ReplyParts.{ReplyEncoded};
 ghost use Rattle.hickory_base.specs.responses.Responses.{error_metadata};
@@ -8,13 +8,12 @@ ghost use Rattle.hickory_catalog.specs.replies.ReplyEdns.{reply_edns};
 ghost use Rattle.hickory_server.specs.server.Written.{IsBare, IsEncoding, bare_message, said};
 
 use hickory_base::message_request::MessageRequest;
-use hickory_wire::encoder_laws::what_is_written_keeps_the_limit;
 use hickory_wire::{
-    Edns, Header, Metadata, Octets, Record, ReplyParts, ResponseCode, encode_message_parts,
+    Edns, Header, Metadata, Octets, Record, ReplyParts, ResponseCode, TSIG, encode_message_parts_in,
 };
 use std::alloc::{AllocError, Global};
 
-/// What a reply says. Its SOA record, if it has one, is among the authorities.
+/// What a reply says.
 #[derive(Drop)]
 pub struct Contents<'a> {
     /// Its header without the counts.
@@ -29,41 +28,25 @@ pub struct Contents<'a> {
     pub answers: &'a [Record],
     /// The records of its authority section.
     pub authorities: &'a [Record],
-    /// The records of its additional section without the OPT record.
+    /// The SOA record after them, if it is not among them.
+    pub soa: &'a [Record],
+    /// The records of its additional section without OPT and TSIG.
     pub additionals: &'a [Record],
+    /// Its TSIG record.
+    pub signature: Option<&'a Record<TSIG>>,
 }
 
-/// A reply without records, except for its OPT record.
-pub fn without_records<'a>(
-    metadata: Metadata,
-    question: &'a [u8],
-    question_count: u16,
-    edns: Option<&'a Edns>,
-) -> Contents<'a>
-    ensures { said result ≡ bare_message metadata question.now question_count (option_copied edns.entry) }
-{
-    Contents {
-        metadata,
-        question,
-        question_count,
-        edns,
-        answers: &[],
-        authorities: &[],
-        additionals: &[],
-    }
-}
-
-/// The header and the bytes of a reply, with as many records as fit the limit. TC says that one is left out.
-pub(crate) fn encoded_with_header(
-    alloc: Global,
+/// Puts the bytes of a reply in the place of others, with as many records as fit the limit, and gives their header. TC
+/// says that one is left out.
+// speed: served, an address
+#[inline(always)]
+pub(crate) fn encode_in(
+    bytes: &mut Vec<u8>,
     contents: &Contents<'_>,
     limit: u16,
-) -> Result<(Header, Octets), AllocError>
-    ensures reply { IfOk result (λ made. ReplyEncoded limit (said contents.now) made.1 made.0) }
-    ensures within { IfOk result (λ made. length made.1 ≤ max limit 12) }
+) -> Result<Header, AllocError>
+    ensures { IfOk result (λ header. ReplyEncoded limit (said contents.now) bytes.new.items header) }
 {
-    what_is_written_keeps_the_limit();
-    let nothing: &[Record] = &[];
     let parts = ReplyParts {
         metadata: contents.metadata,
         question: contents.question,
@@ -71,25 +54,63 @@ pub(crate) fn encoded_with_header(
         edns: contents.edns,
         answers: contents.answers.iter(),
         authorities: contents.authorities.iter(),
-        soa: nothing.iter(),
+        soa: contents.soa.iter(),
         additionals: contents.additionals.iter(),
-        signature: None,
+        signature: contents.signature,
     };
-    match encode_message_parts(alloc, limit, parts) {
-        Ok(made) => Ok((made.0, Octets::from_vec(made.1))),
+    match encode_message_parts_in(bytes, limit, parts) {
+        Ok(header) => Ok(header),
         Err(_) => Err(AllocError),
     }
 }
 
+/// The header and the bytes of a reply, with as many records as fit the limit.
+pub(crate) fn encoded_with_header(
+    alloc: Global,
+    contents: &Contents<'_>,
+    limit: u16,
+) -> Result<(Header, Octets), AllocError>
+    ensures { IfOk result (λ made. ReplyEncoded limit (said contents.now) made.1 made.0) }
+{
+    let mut bytes = Vec::new(alloc);
+    let header = encode_in(&mut bytes, contents, limit)?;
+    Ok((header, Octets::from_vec(bytes)))
+}
+
 /// The bytes of a reply, with as many records as fit the limit.
 pub fn encoded(alloc: Global, contents: &Contents<'_>, limit: u16) -> Result<Octets, AllocError>
-    ensures reply { IfOk result (IsEncoding limit (said contents.now)) }
-    ensures within { IfOk result (λ bytes. length bytes ≤ max limit 12) }
+    ensures { IfOk result (IsEncoding limit (said contents.now)) }
 {
     match encoded_with_header(alloc, contents, limit) {
         Ok(made) => Ok(made.1),
         Err(e) => Err(e),
     }
+}
+
+/// The bytes of a reply without records, except for its OPT record, within a limit.
+pub(crate) fn encoded_bare<'x>(
+    alloc: Global,
+    metadata: Metadata,
+    question: &'x [u8],
+    question_count: u16,
+    edns: Option<&'x Edns>,
+    limit: u16,
+) -> Result<Octets, AllocError>
+    ensures { IfOk result
+        (IsEncoding limit (bare_message metadata question.now question_count (option_copied edns.entry))) }
+{
+    let contents = Contents {
+        metadata,
+        question,
+        question_count,
+        edns,
+        answers: &[],
+        authorities: &[],
+        soa: &[],
+        additionals: &[],
+        signature: None,
+    };
+    encoded(alloc, &contents, limit)
 }
 
 /// What the OPT record of a reply says to one that says this (RFC 6891 section 7).
@@ -120,13 +141,12 @@ pub fn bare(
     metadata: Metadata,
     limit: u16,
 ) -> Result<Octets, AllocError>
-    ensures reply { IfOk result (IsBare limit message.now metadata) }
-    ensures within { IfOk result (λ bytes. length bytes ≤ max limit 12) }
+    ensures { IfOk result (IsBare limit message.now metadata) }
 {
     let edns = edns_of(alloc, message);
     let count = message.queries.len() as u16;
-    let contents = without_records(metadata, message.queries.as_bytes(), count, edns.as_ref());
-    let made = encoded(alloc, &contents, limit);
+    let question = message.queries.as_bytes();
+    let made = encoded_bare(alloc, metadata, question, count, edns.as_ref(), limit);
     drop(edns);
     made
 }

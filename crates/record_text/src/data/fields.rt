@@ -4,6 +4,7 @@ ghost use Rattle.std.specs.Prelude.{◌≡◌, ◌≢◌, ◌<◌, ◌^◌, fals
 ghost use Rattle.std.specs.Option.{option_copied};
 ghost use Rattle.std.specs.Net.Grammar.{IsIpv4Text, IsIpv6Text};
 ghost use Rattle.wire_names.specs.rr.domain.DomainName.{DomainName};
+ghost use Rattle.wire_messages.specs.rr.Addresses.{IsIpv6};
 ghost use Rattle.record_text.specs.declared.data.field.Field.TheVariants as field;
 ghost use Rattle.text_words.specs.declared.error.TextError.TheVariants.{Memory};
 ghost use Rattle.text_words.specs.declared.words.Word.{Word};
@@ -18,6 +19,7 @@ use crate::data::mnemonics::{put_named8, put_named16};
 use crate::data::moment::moment;
 use crate::data::nsap::put_nsap;
 use crate::data::table::type_of;
+use crate::generic::byte_count;
 use hickory_wire::Name;
 use std::alloc::Global;
 use std::net::{Ipv4Addr, Ipv6Addr};
@@ -43,6 +45,7 @@ pub(crate) fn ipv4(word: &Word<'_>) -> Result<Ipv4Addr, TextError>
 
 /// The IPv6 address that a word is.
 pub(crate) fn ipv6(word: &Word<'_>) -> Result<Ipv6Addr, TextError>
+    ensures range { IfOk result IsIpv6 }
     ensures spelled { IfOk result (λ address. (word.now.quoted ≡ false) × IsIpv6Text word.now.bytes.now address) }
     ensures refused { OnErr result
         (HasNone (λ address. (word.now.quoted ≡ false) × IsIpv6Text word.now.bytes.now address)) }
@@ -52,7 +55,11 @@ pub(crate) fn ipv6(word: &Word<'_>) -> Result<Ipv6Addr, TextError>
         return Err(bad);
     }
     match Ipv6Addr::parse_ascii(word.bytes) {
-        Ok(address) => Ok(address),
+        Ok(address) => {
+            let len = byte_count(&address.octets());
+            prove!(len == 16);
+            Ok(address)
+        }
         Err(_) => Err(bad),
     }
 }

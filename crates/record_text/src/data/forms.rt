@@ -1,13 +1,15 @@
 //! Data in the form of their type.
 
-ghost use Rattle.std.specs.Prelude.{◌≡◌, ◌≢◌, [], ◌∷◌, length, IfErr, IfOk};
+ghost use Rattle.std.specs.Prelude.{◌≡◌, ◌≢◌, ◌<◌, [], ◌∷◌, length, IfErr, IfOk};
 ghost use Rattle.std.specs.Option.{option_copied};
-ghost use Rattle.std.specs.List.{flat_map};
+ghost use Rattle.std.specs.List.{AllByRecursion, flat_map};
 ghost use Rattle.wire_messages.specs.rr.RecordData.{character_string, type_of};
+ghost use Rattle.wire_messages.specs.serialize.layout.FieldRanges.{IsInRange};
+ghost use Rattle.wire_messages.specs.serialize.layout.RecordLayout.{IsFormed};
 ghost use Rattle.wire_messages.specs.serialize.writing.FullForm.{data_octets};
 ghost use Rattle.text_words.specs.declared.error.TextError.TheVariants.{Memory};
 ghost use Rattle.text_words.specs.Spelling.{IsString};
-ghost use Rattle.record_text.specs.RecordText.{AreStrings, HasNone, IsData};
+ghost use Rattle.record_text.specs.RecordText.{AreOctetsOf, AreStrings, HasNone, IsData};
 
 use crate::data::fields::{ipv4, ipv6, number16, put_fields};
 use crate::data::rest::put_rest;
@@ -26,6 +28,7 @@ fn mail_exchange(
     origin: Option<&Name>,
 ) -> Result<RData, TextError>
     ensures form { IfOk result (λ rdata. type_of rdata ≡ 15) }
+    ensures formed { IfOk result IsFormed }
     ensures spelled { IfOk result (λ rdata. IsData (option_copied origin.entry) 15 (preference.now ∷ exchange.now ∷ [])
         (data_octets rdata)) }
     ensures refused { IfErr result
@@ -47,6 +50,7 @@ fn start_of_authority(
 ) -> Result<RData, TextError>
     requires { length words.now ≡ 7 }
     ensures form { IfOk result (λ rdata. type_of rdata ≡ 6) }
+    ensures formed { IfOk result IsFormed }
     ensures spelled { IfOk result (λ rdata. IsData (option_copied origin.entry) 6 words.now (data_octets rdata)) }
     ensures refused { IfErr result (λ e. e ≢ Memory → HasNone (IsData (option_copied origin.entry) 6 words.now)) }
 {
@@ -71,6 +75,7 @@ fn start_of_authority(
 
 /// The character string of a word.
 fn string(alloc: Global, word: &Word<'_>) -> Result<Octets, TextError>
+    ensures short { IfOk result (λ bytes. length bytes < 256) }
     ensures spelled { IfOk result (λ bytes. IsString word.now (character_string bytes)) }
     ensures refused { IfErr result (λ e. e ≢ Memory → HasNone (IsString word.now)) }
 {
@@ -81,6 +86,7 @@ fn string(alloc: Global, word: &Word<'_>) -> Result<Octets, TextError>
 
 /// Character strings, one a word.
 fn strings(alloc: Global, words: &[Word<'_>]) -> Result<Items<Octets>, TextError>
+    ensures short { IfOk result (AllByRecursion (λ text. length text < 256)) }
     ensures spelled { IfOk result (λ strings. AreStrings words.now (flat_map character_string strings)) }
     ensures refused { IfErr result (λ e. e ≢ Memory → HasNone (AreStrings words.now)) }
 {
@@ -99,7 +105,8 @@ fn as_bytes(
     end: usize,
     origin: Option<&Name>,
 ) -> Result<RData, TextError>
-    ensures form { IfOk result (λ rdata. type_of rdata ≡ record_type) }
+    ensures kept { IfOk result (AreOctetsOf record_type) }
+    ensures range { IfOk result IsInRange }
     ensures spelled { IfOk result (λ rdata. IsData (option_copied origin.entry) record_type words.now
         (data_octets rdata)) }
     ensures refused { IfErr result
@@ -130,6 +137,7 @@ pub(crate) fn data_in_form(
     origin: Option<&Name>,
 ) -> Result<RData, TextError>
     ensures form { IfOk result (λ rdata. type_of rdata ≡ record_type) }
+    ensures formed { IfOk result IsFormed }
     ensures spelled { IfOk result (λ rdata. IsData (option_copied origin.entry) record_type words.now
         (data_octets rdata)) }
     ensures refused { IfErr result

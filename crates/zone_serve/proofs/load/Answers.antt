@@ -1,4 +1,4 @@
-use Rattle.zone_serve.proofs.Loading.{none_is}
+use Rattle.server.proofs.Results.{none_is}
 use Rattle.zone_serve.proofs.load.Goals as goal
 
 pub returns-then-branch-clause-loaded : goal.returns-then-branch-clause-loaded

@@ -2,7 +2,8 @@ use Rattle.std.proofs.Common.{◌∙◌, ap, option_map}
 use Rattle.std.specs.Global.{Global}
 use Rattle.std.specs.declared.rc.Rc.{Rc}
 use Rattle.hickory_store.specs.blocklist.BlockAnswers.{Blocklist}
-use Rattle.zone_serve.proofs.Loading.{copied_map, zones_alone}
+use Rattle.server.proofs.Results.{copied_map}
+use Rattle.zone_serve.proofs.Loading.{zones_alone}
 use Rattle.zone_serve.proofs.put_zones.Goals as goal
 
 pub returns-clause-zones : goal.returns-clause-zones
@@ -17,8 +18,10 @@ returns-clause-zones g c =
       are_loaded = rw (list, c.deref-3.ensures.value) at c.in_ok-apexes.ensures.loaded;
       grants = c.in_ok-grants.grants.items;
       are_grants = rw c.deref.ensures.value at c.in_ok-grants.ensures;
-      of_zones = rw (c.deref-4.ensures.value, c.deref-5.ensures.value) at c.in_ok-see_zones.ensures;
-      are_given = rw (c.deref-7.ensures.value, c.deref-8.ensures.value) at c.in_ok-grant_updates.ensures.given;
+      are_served = record {
+        of_zones = rw (c.deref-4.ensures.value, c.deref-5.ensures.value) at c.in_ok-see_zones.ensures;
+        are_given = rw (c.deref-7.ensures.value, c.deref-8.ensures.value) at c.in_ok-grant_updates.ensures.given;
+      };
     }
 
 pub returns-clause-others : goal.returns-clause-others

@@ -2,8 +2,11 @@
 
 ghost use Rattle.std.specs.Prelude.{◌≡◌, ◌≢◌, ◌↔◌, ◌≤◌, ◌++◌, ◌⊎◌, ℕ, [], ◌∷◌, All, List, Option, Some, None, false, true, take, IfErr, IfNone, IfOk, IfSome, IsTrue, OnErr, OnOk};
 ghost use Rattle.wire_messages.specs.declared.rr.rdata.RData.{RData as RDataOf};
+ghost use Rattle.wire_messages.specs.declared.rr.record.Proof.TheVariants.{Indeterminate};
 ghost use Rattle.wire_messages.specs.rr.RecordData.{type_of};
+ghost use Rattle.wire_messages.specs.serialize.layout.RecordLayout.{IsFormed};
 ghost use Rattle.wire_messages.specs.serialize.writing.RecordSize.{data_len};
+ghost use Rattle.hickory_wire.specs.serialize.writing.ReadingBack.{ReadsBack};
 ghost use Rattle.text_words.specs.declared.words.Word.{Word as WordOf};
 ghost use Rattle.record_text.specs.RecordText.{HasNone, SpellsData};
 ghost use Rattle.zone_text.specs.ZoneFiles.{AreNoOctets, AreTtlAndClass, BeginsWith, IsBehindOwner, IsClass1, IsClassIn, IsDirective, IsEntry, IsFrontOf, IsRecordEntry, IsTyped};
@@ -14,11 +17,14 @@ ghost use Rattle.zone_text.specs.ZoneFiles.{IsTtl, IsTypeWord, IsZoneRecord, IsZ
 use crate::error::ZoneFileFault;
 use crate::zone_file::fault::{EntryError, fault_of};
 use crate::zone_file::generate::read_generate;
+use hickory_wire::record_laws::reading_back;
 use hickory_wire::{DNSClass, Items, Name, Proof, RData, Record, RecordType};
 use record_text::{class_of, data_of_words, type_of};
 use std::alloc::{AllocError, Global};
 use std::mem;
+use text_print::is_formed;
 use text_words::{TextFault, Word, absolute_name, fault_at, number_of_digits, seconds_of};
+use wire_messages::serialize::writing::full_form::full_name_len;
 
 /// What the entries before leave to an entry.
 #[derive(Drop)]
@@ -262,6 +268,19 @@ fn last_owner(first: &Word<'_>, records: &[Record]) -> Result<Name, EntryError>
     }
 }
 
+/// Of these parts a record reads back as itself.
+fn reads_back(name: &Name, ttl: u32, rdata: &RData)
+    requires qualified { name.now.is_fqdn ≡ true }
+    requires formed { IsFormed rdata.now }
+    requires fits { data_len rdata.now ≤ 65535 }
+    ensures { ReadsBack
+        (record { name = name.now; dns_class = 1; ttl = ttl; rdata = rdata.now; proof = Indeterminate }) }
+{
+    reading_back();
+    let _len = full_name_len(name);
+    let _formed = is_formed(rdata);
+}
+
 /// The record of this owner name and of what stands between it and the data, which these fields are. `first` is the
 /// field that the entry begins with, and `end` the place behind all fields.
 pub(crate) fn typed_record(
@@ -293,6 +312,7 @@ pub(crate) fn typed_record(
     let Some(ttl) = ttl_in_force(front.ttl, before.default_ttl, last, minimum) else {
         return Err(fault_of(first, ZoneFileFault::NoTtl));
     };
+    reads_back(&name, ttl, &rdata);
     Ok(Record {
         name,
         dns_class: DNSClass::IN,

@@ -17,6 +17,6 @@ returns-in-Err-clause-commits g c =
     record {
       written = Err c.in-Err.fault;
       is_told = (whole c.args.batch.answers.len c.take_back.new.answers c.args.batch.answers.items (ap length back ∙ all_mapped (told_unwritten c.in-Err.fault) c.args.batch.answers.items) size ∙ back, c.restore.ensures);
-      err = subst (λ (es : List (Vec ℕ Global)). IsWriteFault (RefusesEntries g.D.Disk.is_usable c.write_held.new.journal (contents es)) c.in-Err.fault) same c.in-Err.ensures.err;
+      err = subst (λ (es : List (Vec ℕ Global)). IsWriteFault (RefusesEntries c.write_held.new.journal.is_open (contents es)) c.in-Err.fault) same c.in-Err.ensures.err;
       journals = subst (λ (es : List (Vec ℕ Global)). JournalsAll g.D.Disk.seen g.D.Disk.may_leave {T = Unit {0}} {E = UpdateFault} (Err c.in-Err.fault) (contents es) c.args.journal.now c.write_held.new.journal) same c.in-Err.ensures.journals;
     }

@@ -6,10 +6,8 @@ use Rattle.wire_names.specs.rr.domain.NameOrder.{lower_name}
 use Rattle.wire_messages.specs.Numbers.{code_not_auth, code_refused, opcode_query, opcode_update}
 use Rattle.wire_messages.specs.serialize.writing.Reply.{Reply}
 use Rattle.wire_messages.specs.declared.op.query.Query.{Query}
-use Rattle.wire_messages.specs.declared.protocol.Protocol.{Protocol}
 use Rattle.hickory_base.specs.requests.Questions.{one_query}
 use Rattle.hickory_base.specs.requests.Requests.{ReceivedRequest}
-use Rattle.hickory_base.specs.responses.EncodingSinks.{IsEncodingOf}
 use Rattle.hickory_base.specs.declared.requests.message_request.MessageRequest.{MessageRequest}
 use Rattle.hickory_catalog.specs.queries.Queries.{QueryReplies}
 use Rattle.hickory_catalog.specs.queries.Queries as queries
@@ -21,8 +19,10 @@ use Rattle.hickory_catalog.specs.updates.Updates.{UpdateReply, updated_zone}
 use Rattle.hickory_catalog.specs.updates.Updates as update
 use Rattle.hickory_catalog.specs.zones.Zones.{ZoneChains}
 use Rattle.hickory_server.specs.server.Ruling.{Asks, IsQuery, IsRuling, IsUpdate, code_of_refusal}
+use Rattle.hickory_server.specs.server.Sending.{IsSentAs}
 use Rattle.hickory_server.specs.declared.server.rules.Rules.{Rules}
 use Rattle.hickory_server.specs.declared.server.rules.Ruling.TheVariants.{Refuse}
+use Rattle.hickory_server.specs.declared.server.sending.Sending.{Sending}
 
 -- a query and an update are looked into
 pub looked_into : (message : MessageRequest) (query : Query) → IsQuery message query → request_fault message ≡ None
@@ -92,11 +92,11 @@ pub is_either : (rules : Rules) (request : ReceivedRequest) → IsRuling rules r
 is_either rules request (query, inl refused_query) = (query, inl refused_query.0)
 is_either rules request (zone, inr refused_update) = (zone, inr refused_update.0)
 
--- one reply has one encoding
-pub one_encoded : (protocol : Protocol) (replies : List Reply) (reply : Reply) (encoded : List (List ℕ)) → replies ≡ reply ∷ [] → AllZip (IsEncodingOf protocol) replies encoded
-    → (bytes : List ℕ) × (encoded ≡ bytes ∷ []) × IsEncodingOf protocol reply bytes
-one_encoded protocol replies reply encoded one are = by encoded (rw one at are) where
-  by : (encoded : List (List ℕ)) → AllZip (IsEncodingOf protocol) (reply ∷ []) encoded → (bytes : List ℕ) × (encoded ≡ bytes ∷ []) × IsEncodingOf protocol reply bytes
+-- one reply is sent as one message
+pub one_sent : (sending : Sending) (replies : List Reply) (reply : Reply) (sent : List (List ℕ)) → replies ≡ reply ∷ [] → AllZip (IsSentAs sending) replies sent
+    → (bytes : List ℕ) × (sent ≡ bytes ∷ []) × IsSentAs sending reply bytes
+one_sent sending replies reply sent one are = by sent (rw one at are) where
+  by : (sent : List (List ℕ)) → AllZip (IsSentAs sending) (reply ∷ []) sent → (bytes : List ℕ) × (sent ≡ bytes ∷ []) × IsSentAs sending reply bytes
   by [] are = absurd are
   by (bytes ∷ []) (first, rest) = (bytes, refl, first)
   by (bytes ∷ other ∷ others) (first, rest) = absurd rest

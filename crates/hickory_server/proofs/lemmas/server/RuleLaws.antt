@@ -1,15 +1,16 @@
 -- What holds of whatever becomes of a message by the rules of a server.
-use Rattle.std.proofs.Common.{◌≡◌, ◌≤◌, ◌⊎◌, inl, inr, ℕ, List, [], ◌∷◌, length, max, Contains, None, Ok, false, refl, sym, ap, subst, ◌∙◌, arith}
+use Rattle.std.proofs.Common.{◌≡◌, ◌≤◌, ◌⊎◌, inl, inr, ℕ, List, [], ◌∷◌, length, max, Contains, Option, Some, None, Ok, false, refl, sym, ap, subst, ◌∙◌, arith}
 use Rattle.std.specs.Prelude.{◌==◌}
 use Rattle.std.specs.List.{AllByRecursion, AllZip}
 use Rattle.wire_names.specs.rr.domain.DomainName.{DomainName}
 use Rattle.wire_names.specs.rr.domain.NameOrder.{lower_name}
 use Rattle.wire_names.specs.declared.error.DecodeError.{DecodeError}
+use Rattle.wire_messages.specs.op.EdnsFields.{EdnsFields}
 use Rattle.wire_messages.specs.serialize.writing.Reply.{Reply}
 use Rattle.wire_messages.specs.Numbers.{code_form_err, opcode_query, opcode_update}
 use Rattle.wire_messages.specs.declared.op.header.Header.{Header}
 use Rattle.wire_messages.specs.declared.op.query.Query.{Query}
-use Rattle.wire_messages.specs.declared.protocol.Protocol.TheVariants.{Tcp, Udp}
+use Rattle.wire_messages.specs.declared.protocol.Protocol.TheVariants.{Udp}
 use Rattle.wire_reading.specs.serialize.reading.MessageReading.{Fault, Reads}
 use Rattle.wire_reading.specs.declared.op.message.Message.{Message}
 use Rattle.wire_writing.specs.serialize.writing.Writing.{Encoded}
@@ -25,27 +26,27 @@ use Rattle.hickory_catalog.specs.requests.Alone.{ApexesStay, ChainServedAlone, O
 use Rattle.hickory_catalog.specs.requests.Requests.{asks}
 use Rattle.hickory_catalog.specs.zones.Find.{IsNearest, MayAnswer, OneNearest}
 use Rattle.hickory_catalog.specs.replies.ReplyEdns.{reply_edns}
-use Rattle.hickory_catalog.specs.requests.Server.{server_of}
+use Rattle.hickory_catalog.specs.requests.Server.{Server, server_of}
 use Rattle.hickory_catalog.specs.replies.Signing.{Signer}
 use Rattle.hickory_catalog.specs.transfers.WholeTransfers.{TransferredAlone}
 use Rattle.hickory_catalog.specs.declared.catalog.Catalog.{Catalog}
 use Rattle.hickory_server.specs.server.Above.{AsksForDs, IsAskedAbove}
 use Rattle.hickory_server.specs.server.Above.{above as name_above}
-use Rattle.hickory_server.specs.server.Ruling.{IsQuery, IsRuling, datagram_limit, udp_limit}
-use Rattle.hickory_server.specs.server.ServedBy.{IsBounded, RequestServed, ServedBy, ZonesAnswer, refused, truncated, transferred, passed, short, response, request}
+use Rattle.hickory_server.specs.server.Fitted.{IsFitted, front_of}
+use Rattle.hickory_server.specs.server.Fitted as over_udp
+use Rattle.hickory_server.specs.server.Ruling.{IsQuery, IsRuling, datagram_limit, refusal, truncation, udp_limit}
+use Rattle.hickory_server.specs.server.Sending.{IsSentAs, sending_of}
+use Rattle.hickory_server.specs.server.ServedBy.{RequestServed, ServedBy, ZonesAnswer, refused, truncated, transferred, passed, short, response, request}
 use Rattle.hickory_server.specs.server.ServedBy as by_rules
-use Rattle.hickory_server.specs.server.ServedLaws.{HasNoReply, IsFor, IsMessageFor, IsSent, LetThroughSteps, NoReplyToResponses, OtherZonesStay, ServedAloneBy, WithinBothLimits}
+use Rattle.hickory_server.specs.server.ServedLaws.{HasNoReply, IsFor, IsMessageFor, LetThroughStep, LetThroughSteps, NoReplyToResponses, OtherZonesStay, ServedAloneBy, WithinBothLimits}
 use Rattle.hickory_server.specs.server.ServedLaws as for_laws
-use Rattle.hickory_server.specs.server.Serving.{IsRequestOf, StepOver, handled}
-use Rattle.hickory_server.specs.server.Serving as without
+use Rattle.hickory_server.specs.server.Serving.{IsRequestOf}
 use Rattle.hickory_server.specs.server.Written.{bare_message}
 use Rattle.hickory_server.specs.declared.server.answer.Answer.{Answer}
 use Rattle.hickory_server.specs.declared.server.answer.Answer.TheVariants as answers
 use Rattle.hickory_server.specs.declared.server.rules.Rules.{Rules}
 use Rattle.hickory_server.specs.declared.server.rules.Ruling.TheVariants.{Pass, Refuse, Transfer, Truncate}
 use Rattle.hickory_server.specs.declared.server.serve.Incoming.{Incoming}
-use Rattle.hickory_server.specs.declared.server.serve.Outcome.{Outcome}
-use Rattle.hickory_server.specs.declared.server.serve.Outcome.TheVariants as outcomes
 use Rattle.hickory_server.proofs.lemmas.server.Above.{above_as, alone_none, may_too, one_name, one_question}
 use Rattle.hickory_server.proofs.lemmas.server.Refusals.{looked_into, one_is}
 
@@ -73,6 +74,11 @@ not_for_ds rules r name (query, is, class, incremental, may) for_ds =
 is_no_update : (message : MessageRequest) (query : Query) → IsQuery message query → (message.metadata.op_code == opcode_update) ≡ false
 is_no_update message query is = rw is.op_code refl
 
+-- any client takes a header
+payload_least : (edns : Option EdnsFields) → 12 ≤ payload_limit edns
+payload_least None = omega arith
+payload_least (Some edns) = omega arith
+
 -- the zone that a request is for is there
 is_among : {V : Type 0} {zones : List (DomainName × V)} {r : ReceivedRequest} {zone_is : DomainName × V} → IsFor zones r zone_is → Contains zones zone_is
 is_among (for_laws.above asked) = asked.nearest.among
@@ -80,21 +86,20 @@ is_among (for_laws.own _ of_zone) = of_zone.nearest.among
 
 module _ {S H : Type 0} (handler : Ghosts H) (signature_for : S → Signer) where
   pub steps : LetThroughSteps handler signature_for
-  steps rules catalog message answer zones through (by_rules.denied refuses is kept) = (outcomes.Denied, without.denied refuses refl kept, is)
+  steps rules catalog message answer zones through (by_rules.denied refuses is kept) = for_laws.denied refuses is kept
   steps rules catalog message answer zones through (short _ less _ _) = absurd (omega (arith, less, through.whole))
   steps rules catalog message answer zones through (response _ _ qr _ _) = absurd (through.no_response qr)
-  steps rules catalog message answer zones through (by_rules.unreadable allowed _ _ fault is kept) = (outcomes.Unreadable, without.unreadable allowed fault refl kept, is)
-  steps rules catalog message answer zones through (request {request = r} {encoded = encoded} {sent = sent} allowed _ _ is served are answer_is) = by served where
+  steps rules catalog message answer zones through (by_rules.unreadable allowed _ _ fault is kept) = for_laws.unreadable allowed is kept
+  steps rules catalog message answer zones through (request {request = r} {sent = sent} allowed _ _ is served answer_is) = by served where
     passes : IsRuling rules r Pass
     passes = through.passes r is
 
-    by : RequestServed rules (server_of handler signature_for catalog) r message.now encoded zones
-        → (outcome : Outcome) × StepOver Tcp rules.access (server_of handler signature_for catalog) message outcome zones × IsSent rules message outcome answer
+    by : RequestServed rules (server_of handler signature_for catalog) r message.now sent zones → LetThroughStep rules (server_of handler signature_for catalog) message answer zones
     by (refused ruling _ _ _) = absurd (not_refused rules r passes ruling)
     by (truncated ruling _ _ _) = absurd (not_truncated rules r passes ruling)
     by (transferred ruling _ _ _) = absurd (not_transferred rules r passes ruling)
     by (passed _ (by_rules.above asked _ _) _) = absurd (through.not_above r is _ asked)
-    by (passed _ (by_rules.own _ answered) encodings) = (outcomes.Replies encoded, handled allowed is answered encodings refl, (r, sent, is, are, answer_is))
+    by (passed _ (by_rules.own _ answered) are) = for_laws.handled allowed is answered are answer_is
 
   no_reply : (answer : Answer) → answer ≡ answers.Response ⊎ (answer ≡ answers.Unreadable) ⊎ (answer ≡ answers.Denied) → HasNoReply answer
   no_reply answers.Denied is = tt
@@ -110,18 +115,40 @@ module _ {S H : Type 0} (handler : Ghosts H) (signature_for : S → Signer) wher
   no_replies rules catalog message answer zones which (response _ _ _ is kept) = (no_reply answer (inl is), kept)
   no_replies rules catalog message answer zones (inl qr) (by_rules.unreadable _ _ no_response _ _ _) = absurd (no_response qr)
   no_replies rules catalog message answer zones (inr less) (by_rules.unreadable _ whole _ _ _ _) = absurd (omega (arith, less, whole))
-  no_replies rules catalog message answer zones (inl qr) (request _ _ no_response _ _ _ _) = absurd (no_response qr)
-  no_replies rules catalog message answer zones (inr less) (request _ whole _ _ _ _ _) = absurd (omega (arith, less, whole))
+  no_replies rules catalog message answer zones (inl qr) (request _ _ no_response _ _ _) = absurd (no_response qr)
+  no_replies rules catalog message answer zones (inr less) (request _ whole _ _ _ _) = absurd (omega (arith, less, whole))
 
   -- ---- limits
 
   module _ (limited : (limit : ℕ) (reply : Reply) (bytes : List ℕ) (header : Header) → Encoded limit reply bytes header → length bytes ≤ max limit 12) where
-    bounded_both : (rules : Rules) (r : ReceivedRequest) (encoded sent : List (List ℕ)) → AllZip (IsBounded (datagram_limit rules r) r.message) encoded sent
-        → AllByRecursion (λ (bytes : List ℕ). (length bytes ≤ udp_limit rules) × (length bytes ≤ payload_limit r.message.edns)) sent
-    bounded_both rules r [] [] are = tt
-    bounded_both rules r [] (bytes ∷ others) are = absurd are
-    bounded_both rules r (long ∷ longs) [] are = absurd are
-    bounded_both rules r (long ∷ longs) (bytes ∷ others) are = ((omega (arith, are.0.0), omega (arith, are.0.0)), bounded_both rules r longs others are.1)
+    -- what is sent of a reply is within the limit
+    fitted : (limit : ℕ) (reply : Reply) (bytes : List ℕ) → IsFitted limit reply bytes → length bytes ≤ max limit 12
+    fitted limit reply bytes (over_udp.whole (header, made, _)) = limited limit reply bytes header made.encoded
+    fitted limit reply bytes (over_udp.front _ _ longest) = let (header, made, _) = longest.is_front.1 in limited limit (front_of reply longest.count) bytes header made.encoded
+    fitted limit reply bytes (over_udp.tc _ _ (header, made)) = limited limit (over_udp.truncated reply) bytes header made.encoded
+
+    abbrev AreBoth : Rules → ReceivedRequest → List (List ℕ) → Type 0
+    AreBoth rules r = AllByRecursion (λ (bytes : List ℕ). (length bytes ≤ udp_limit rules) × (length bytes ≤ payload_limit r.message.edns))
+
+    all_fitted : (rules : Rules) (r : ReceivedRequest) (replies : List Reply) (sent : List (List ℕ)) → AllZip (IsFitted (datagram_limit rules r)) replies sent → AreBoth rules r sent
+    all_fitted rules r [] [] are = tt
+    all_fitted rules r [] (bytes ∷ others) are = absurd are
+    all_fitted rules r (reply ∷ replies) [] are = absurd are
+    all_fitted rules r (reply ∷ replies) (bytes ∷ others) are =
+        let small = fitted (datagram_limit rules r) reply bytes are.0 in
+        let takes = payload_least r.message.edns in
+        ((omega (arith, small, takes), omega (arith, small, takes)), all_fitted rules r replies others are.1)
+
+    one_fitted : (rules : Rules) (r : ReceivedRequest) (reply : Reply) (bytes : List ℕ) (sent : List (List ℕ)) → r.protocol ≡ Udp → sent ≡ bytes ∷ []
+        → IsSentAs (sending_of rules r) reply bytes → AreBoth rules r sent
+    one_fitted rules r reply bytes sent over one is = rw one (all_fitted rules r (reply ∷ []) (bytes ∷ []) (rw over at is, tt))
+
+    are_both : {V : Type 0} (rules : Rules) (server : Server V) (r : ReceivedRequest) (now : ℕ) (sent : List (List ℕ)) (zones : List (DomainName × List V)) → r.protocol ≡ Udp
+        → RequestServed rules server r now sent zones → AreBoth rules r sent
+    are_both rules server r now sent zones over (refused _ is one _) = one_fitted rules r (refusal server r) _ sent over one is
+    are_both rules server r now sent zones over (truncated _ is one _) = one_fitted rules r (truncation r) _ sent over one is
+    are_both rules server r now sent zones over (transferred {replies = replies} _ _ are _) = all_fitted rules r replies sent (rw over at are)
+    are_both rules server r now sent zones over (passed {replies = replies} _ _ are) = all_fitted rules r replies sent (rw over at are)
 
     pub within : WithinBothLimits handler signature_for
     within rules catalog message sent zones (by_rules.denied _ is _) udp = absurd cc
@@ -132,10 +159,10 @@ module _ {S H : Type 0} (handler : Ghosts H) (signature_for : S → Signer) wher
         let small = limited 512 (bare_message (error_metadata header.metadata code_form_err) [] 0 None) reply made.0 made.1.encoded in
         let same : sent ≡ reply ∷ [] = cc in
         let few : length reply ≤ 512 = omega (arith, small) in inr (is, rw same (few, tt))
-    within rules catalog message sent zones (request {request = r} {encoded = encoded} {sent = made} _ _ _ is served are answer_is) udp =
+    within rules catalog message sent zones (request {request = r} {sent = made} _ _ _ is served answer_is) udp =
         let same : made ≡ sent = cc in
         let over : r.protocol ≡ Udp = is.protocol_is ∙ udp in
-        inl (r, is, bounded_both rules r encoded sent (rw (← same) (rw over at are)))
+        inl (r, is, subst (AreBoth rules r) same (are_both rules (server_of handler signature_for catalog) r message.now made zones over served))
 
   -- ---- isolation
 
@@ -178,37 +205,37 @@ module _ {S H : Type 0} (handler : Ghosts H) (signature_for : S → Signer) wher
         (chain, response allowed whole qr is refl, subst (λ (zs : List (DomainName × List H)). Contains zs (apex, chain)) (sym kept) (is_among to.is_for))
     alone rules catalog message answer after apex chain sorted to (by_rules.unreadable allowed whole no_response fault is kept) =
         (chain, by_rules.unreadable allowed whole no_response fault is refl, subst (λ (zs : List (DomainName × List H)). Contains zs (apex, chain)) (sym kept) (is_among to.is_for))
-    alone rules catalog message answer after apex chain sorted to (request {request = r} {encoded = encoded} allowed whole no_response is served_so are answer_is) = by served_so (for_zone_too catalog.zones rules message r (apex, chain) is to) where
+    alone rules catalog message answer after apex chain sorted to (request {request = r} {sent = sent} allowed whole no_response is served_so answer_is) = by served_so (for_zone_too catalog.zones rules message r (apex, chain) is to) where
       kept_in : after ≡ catalog.zones → Contains after (apex, chain)
       kept_in kept = subst (λ (zs : List (DomainName × List H)). Contains zs (apex, chain)) (sym kept) (is_among to.is_for)
 
-      by : RequestServed rules (server_of handler signature_for catalog) r message.now encoded after → IsFor catalog.zones r (apex, chain)
+      by : RequestServed rules (server_of handler signature_for catalog) r message.now sent after → IsFor catalog.zones r (apex, chain)
           → (chain' : List H) × ServedBy rules (record (server_of handler signature_for catalog) { zones = (apex, chain) ∷ [] }) message answer ((apex, chain') ∷ []) × Contains after (apex, chain')
-      by (refused ruling made one kept) _ = (chain, request allowed whole no_response is (refused ruling made one refl) are answer_is, kept_in kept)
-      by (truncated ruling made one kept) _ = (chain, request allowed whole no_response is (truncated ruling made one refl) are answer_is, kept_in kept)
+      by (refused ruling made one kept) _ = (chain, request allowed whole no_response is (refused ruling made one refl) answer_is, kept_in kept)
+      by (truncated ruling made one kept) _ = (chain, request allowed whole no_response is (truncated ruling made one refl) answer_is, kept_in kept)
       by (transferred ruling replied made kept) (for_laws.above asked) = absurd (not_for_ds rules r asked.name ruling asked.asks)
       by (transferred {replies = replies} ruling replied made kept) (for_laws.own _ of_zone) =
           let there = transfers catalog r (reply_edns catalog.nsid r.message.edns) message.now replies (apex, chain) sorted of_zone replied in
-          (chain, request allowed whole no_response is (transferred ruling there made refl) are answer_is, kept_in kept)
+          (chain, request allowed whole no_response is (transferred ruling there made refl) answer_is, kept_in kept)
       by (passed ruling (by_rules.above {zone = zone_is} asked replied kept) made) (for_laws.own none _) = absurd (none zone_is asked)
       by (passed {replies = replies} ruling (by_rules.above {zone = zone_is} asked replied kept) made) (for_laws.above here) =
           let names = one_name r.message asked.name here.name asked.asks here.asks in
           let there : IsNearest catalog.zones (name_above here.name) zone_is = subst (λ (n : DomainName). IsNearest catalog.zones (name_above n) zone_is) names asked.nearest in
           let one : zone_is ≡ (apex, chain) = nearest catalog.zones (name_above here.name) zone_is (apex, chain) sorted there here.nearest in
           let said = subst (λ (z : DomainName × List H). ChainReplies (server_of handler signature_for catalog) z.1 r (reply_edns catalog.nsid r.message.edns) message.now replies) one replied in
-          (chain, request allowed whole no_response is (passed ruling (above_alone catalog r message.now replies (apex, chain) here said) made) are answer_is, kept_in kept)
+          (chain, request allowed whole no_response is (passed ruling (above_alone catalog r message.now replies (apex, chain) here said) made) answer_is, kept_in kept)
       by (passed ruling (by_rules.own none answered) made) (for_laws.above here) = absurd (none (apex, chain) here)
       by (passed {replies = replies} ruling (by_rules.own none answered) made) (for_laws.own _ of_zone) =
           let there = served catalog r message.now replies after (apex, chain) sorted of_zone answered in
-          (there.0, request allowed whole no_response is (passed ruling (by_rules.own (alone_none r.message (apex, chain)) there.1) made) are answer_is, there.2)
+          (there.0, request allowed whole no_response is (passed ruling (by_rules.own (alone_none r.message (apex, chain)) there.1) made) answer_is, there.2)
 
     pub stay : OtherZonesStay handler signature_for
     stay rules catalog message answer after apex chain among other (by_rules.denied _ _ kept) = subst (λ (zs : List (DomainName × List H)). Contains zs (apex, chain)) (sym kept) among
     stay rules catalog message answer after apex chain among other (short _ _ _ kept) = subst (λ (zs : List (DomainName × List H)). Contains zs (apex, chain)) (sym kept) among
     stay rules catalog message answer after apex chain among other (response _ _ _ _ kept) = subst (λ (zs : List (DomainName × List H)). Contains zs (apex, chain)) (sym kept) among
     stay rules catalog message answer after apex chain among other (by_rules.unreadable _ _ _ _ _ kept) = subst (λ (zs : List (DomainName × List H)). Contains zs (apex, chain)) (sym kept) among
-    stay rules catalog message answer after apex chain among other (request {request = r} {encoded = encoded} allowed _ _ is served_so _ _) = by served_so where
-      by : RequestServed rules (server_of handler signature_for catalog) r message.now encoded after → Contains after (apex, chain)
+    stay rules catalog message answer after apex chain among other (request {request = r} {sent = sent} allowed _ _ is served_so _) = by served_so where
+      by : RequestServed rules (server_of handler signature_for catalog) r message.now sent after → Contains after (apex, chain)
       by (refused _ _ _ kept) = subst (λ (zs : List (DomainName × List H)). Contains zs (apex, chain)) (sym kept) among
       by (truncated _ _ _ kept) = subst (λ (zs : List (DomainName × List H)). Contains zs (apex, chain)) (sym kept) among
       by (transferred _ _ _ kept) = subst (λ (zs : List (DomainName × List H)). Contains zs (apex, chain)) (sym kept) among

@@ -30,11 +30,11 @@ use Rattle.hickory_catalog.specs.queries.Queries.{HandlerReply, ReplyByType, who
 use Rattle.hickory_catalog.specs.replies.Replies.{Contents}
 use Rattle.hickory_catalog.specs.queries.Transcripts.{options_of, wants_memory}
 use Rattle.hickory_base.specs.declared.zone_store.lookup.WholeReply.{WholeReply}
-use Rattle.hickory_zone.proofs.lemmas.names.EnclosedBetween.{equal_of}
-use Rattle.hickory_zone.specs.Additionals.{is_hostless, target_start}
-use Rattle.hickory_zone.specs.Handled.{LookedUp, StandsFor, by_no_data, by_no_name, by_records, in_whole, is_held, is_soa, question, records_of}
-use Rattle.hickory_zone.specs.Replies.{RepliesTo, as_zone, denial_soa, whole}
-use Rattle.hickory_zone.specs.Zones.{Records}
+use Rattle.zone_answers.proofs.lemmas.names.EnclosedBetween.{equal_of}
+use Rattle.zone_answers.specs.Additionals.{is_hostless, target_start}
+use Rattle.zone_replies.specs.Handled.{LookedUp, StandsFor, by_no_data, by_no_name, by_records, in_whole, is_held, is_soa, question, records_of}
+use Rattle.zone_replies.specs.Replies.{RepliesTo, as_zone, denial_soa, whole}
+use Rattle.zone_answers.specs.Zones.{Records}
 use Rattle.hickory_server.specs.zone_handler.ZoneReplies.{SaysTheReply}
 
 first_false : (a b c : Bool) → not (a || (b || c)) ≡ true → a ≡ false

@@ -3,6 +3,8 @@ use Rattle.std.proofs.lemmas.List.{take_rest}
 use Rattle.std.specs.Option.{option_copied}
 use Rattle.std.specs.Prelude.{◌≢◌, IfErr, IfOk}
 use Rattle.wire_messages.specs.declared.rr.rdata.RData.{RData}
+use Rattle.wire_messages.specs.rr.RecordData.{type_of}
+use Rattle.wire_messages.specs.serialize.layout.RecordLayout.{IsFormed}
 use Rattle.wire_messages.specs.serialize.writing.FullForm.{data_octets}
 use Rattle.wire_messages.specs.serialize.writing.RecordSize.{data_len}
 use Rattle.wire_names.specs.rr.domain.DomainName.{DomainName}
@@ -13,14 +15,14 @@ use Rattle.record_text.specs.RecordText.{BeginGeneric, HasNone, IsData, IsGeneri
 use Rattle.record_text.specs.RecordText.SpellsData.{in_form, generic}
 use Rattle.record_text.proofs.data.data_of_words.Goals as goal
 
-as_form : (origin : Option DomainName) (number : ℕ) (words : List Word) (r : Result RData TextError) → ¬ (BeginGeneric words) → IfOk r (λ rdata. IsData origin number words (data_octets rdata)) → IfOk r (λ rdata. data_len rdata ≤ 65535)
-    → IfOk r (SpellsData origin number words)
-as_form origin number words (Ok rdata) other h short = in_form other h short
-as_form origin number words (Err e) other h short = h
+as_form : (origin : Option DomainName) (number : ℕ) (words : List Word) (r : Result RData TextError) → ¬ (BeginGeneric words) → IfOk r (λ rdata. IsData origin number words (data_octets rdata)) → IfOk r (λ rdata. type_of rdata ≡ number) → IfOk r IsFormed
+    → IfOk r (λ rdata. data_len rdata ≤ 65535) → IfOk r (SpellsData origin number words)
+as_form origin number words (Ok rdata) other h typed formed short = in_form other h typed formed short
+as_form origin number words (Err e) other h typed formed short = h
 
 -- words that do not begin so are data in a form alone
 only_form : (origin : Option DomainName) (number : ℕ) (words : List Word) (rdata : RData) → ¬ (BeginGeneric words) → SpellsData origin number words rdata → IsData origin number words (data_octets rdata) × (data_len rdata ≤ 65535)
-only_form origin number words rdata other (in_form begins is short) = (is, short)
+only_form origin number words rdata other (in_form begins is typed formed short) = (is, short)
 only_form origin number words rdata other (generic plain is written) = absurd (other (plain, is))
 
 no_form : (origin : Option DomainName) (number : ℕ) (words : List Word) (r : Result RData TextError) → ¬ (BeginGeneric words) → IfErr r (λ e. e ≢ Memory → HasNone (λ (rdata : RData). IsData origin number words (data_octets rdata) × (data_len rdata ≤ 65535)))
@@ -30,7 +32,7 @@ no_form origin number words (Err e) other h = λ no_want rdata is. h no_want rda
 
 -- and words that begin so in the other alone
 only_generic : (origin : Option DomainName) (number : ℕ) (mark size : Word) (digits : List Word) (rdata : RData) → BeginGeneric (mark ∷ size ∷ digits) → SpellsData origin number (mark ∷ size ∷ digits) rdata → IsGenericData number size digits rdata
-only_generic origin number mark size digits rdata begin (in_form begins is short) = absurd (begins begin)
+only_generic origin number mark size digits rdata begin (in_form begins is typed formed short) = absurd (begins begin)
 only_generic origin number mark size digits rdata begin (generic plain is written) = written
 
 -- words that begin so are at least two
@@ -72,7 +74,7 @@ not_so : (words : List Word) (b : Bool) → b ≡ false → (BeginGeneric words 
 not_so words b is h begin = let t : b ≡ true = h begin in cc
 
 pub returns-clause-spelled : goal.returns-clause-spelled
-returns-clause-spelled c = as_form (option_copied c.args.origin) c.args.record_type c.args.words.now c.data_within.result (not_so c.args.words.now c.begin_generic.result c.if-begin_generic.false c.begin_generic.ensures.1) c.data_within.ensures.spelled c.data_within.ensures.fits
+returns-clause-spelled c = as_form (option_copied c.args.origin) c.args.record_type c.args.words.now c.data_within.result (not_so c.args.words.now c.begin_generic.result c.if-begin_generic.false c.begin_generic.ensures.1) c.data_within.ensures.spelled c.data_within.ensures.form c.data_within.ensures.formed c.data_within.ensures.fits
 
 pub returns-then-begin_generic-clause-refused : goal.returns-then-begin_generic-clause-refused
 returns-then-begin_generic-clause-refused c = no_generic (option_copied c.args.origin) c.args.record_type c.args.words.now _ c.read_generic.result (c.begin_generic.ensures.0 c.if-begin_generic.true) c.read_generic.ensures.refused

@@ -11,6 +11,7 @@ returns c =
     on_ok c.allow_transfer_key.result (λ events run. goes_on run (record {
       zones = ap zones_of others;
       apexes = ap (λ (s : Service). s.apexes) others;
+      keys = ap (λ (s : Service). s.answering.server.keys) others;
       grants = ap (λ (s : Service). s.grants) others;
       list = ap (λ (s : Service). s.list) others;
     }))

@@ -3,17 +3,17 @@ use Rattle.std.proofs.Common.{inr, refl}
 use Rattle.hickory_server.specs.declared.server.answer.Answer.TheVariants.{Replies}
 use Rattle.signed_server.proofs.service.serve_good.Goals as goal
 
-pub returns-in-Ok-sent-clause-ok : goal.returns-in-Ok-sent-clause-ok
-returns-in-Ok-sent-clause-ok g c =
-    let (theirs, are, served) = rw c.in-Ok-Replies.field-0-is at c.in-Ok-Replies.ensures.ok in (
+pub returns-in-Ok-clause-ok : goal.returns-in-Ok-clause-ok
+returns-in-Ok-clause-ok g c =
+    let (theirs, are, served) = c.in_ok-replies.ensures.ok in (
       theirs,
-      Replies c.in-Ok-Replies.replies,
+      Replies c.in_ok-replies.replies,
       rw c.is_by_one_of-is_open.ensures at are,
       served,
-      (c.in-Ok-sent.leaving, rw c.serve_opened.ensures.rules at c.in-Ok-sent.ensures, refl),
+      (c.in-Ok.leaving, rw (c.serve_opened.ensures.rules, c.request.ensures, c.serve_opened.ensures.request) at c.in-Ok.ensures, refl),
     )
 
-pub returns-in-Err-sent-clause-err : goal.returns-in-Err-sent-clause-err
-returns-in-Err-sent-clause-err g c =
-    let (theirs, are, served) = rw c.in-Ok-Replies.field-0-is at c.in-Ok-Replies.ensures.ok in
-    inr (inr (refl, c.args.judgement.now, theirs, rw c.is_by_one_of-is_open.ensures at are, Replies c.in-Ok-Replies.replies, served))
+pub returns-in-Err-clause-err : goal.returns-in-Err-clause-err
+returns-in-Err-clause-err g c =
+    let (theirs, are, served) = c.in_ok-replies.ensures.ok in
+    inr (inr (refl, c.args.judgement.now, theirs, rw c.is_by_one_of-is_open.ensures at are, Replies c.in_ok-replies.replies, served))

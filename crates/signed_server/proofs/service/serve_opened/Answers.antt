@@ -1,4 +1,4 @@
--- The message is served by the rules as they are, or by those that are opened.
+-- The request is served by the rules as they are, or by those that are opened.
 use Rattle.std.proofs.Common.{◌≡◌, true, false, rules, refl}
 use Rattle.hickory_base.proofs.lemmas.ResultMaps.{if_ok_map}
 use Rattle.signed_server.specs.ServedWithKeys.{AreOpen}
@@ -7,7 +7,7 @@ use Rattle.signed_server.proofs.service.serve_opened.Goals as goal
 pub returns-then-not-is_open-clause-ok : goal.returns-then-not-is_open-clause-ok
 returns-then-not-is_open-clause-ok g c =
     let closed : c.args.is_open ≡ false = search rules in
-    if_ok_map c.serve.result _ _ c.serve.ensures.ok (λ answer served. (c.args.server.now.rules, rw closed refl, served))
+    if_ok_map c.serve_request.result _ _ c.serve_request.ensures.ok (λ replies served. (c.args.server.now.rules, rw closed refl, served))
 
 pub returns-clause-ok : goal.returns-clause-ok
 returns-clause-ok g c =
@@ -15,7 +15,7 @@ returns-clause-ok g c =
     let theirs = record c.args.server.now.rules { transfers = c.replace-closed.new.dest } in
     let are : AreOpen c.args.server.now.rules theirs = record {
       others = refl;
-      none_denied = rw c.replace-closed.ensures.after c.new.ensures.deny;
-      none_listed = rw c.replace-closed.ensures.after c.new.ensures.allow;
+      none_denied = rw c.replace-closed.ensures.after c.new-2.ensures.deny;
+      none_listed = rw c.replace-closed.ensures.after c.new-2.ensures.allow;
     } in
-    if_ok_map c.serve-answer.result _ _ c.serve-answer.ensures.ok (λ answer served. (theirs, rw opened are, served))
+    if_ok_map c.serve_request-served.result _ _ c.serve_request-served.ensures.ok (λ replies served. (theirs, rw opened are, served))

@@ -1,7 +1,7 @@
 use Rattle.std.proofs.Common.{rules}
 use Rattle.zone_serve.specs.Groups.EachServed.{none}
 use Rattle.zone_serve.proofs.ServedGroups.{each_more}
-use Rattle.zone_serve.proofs.Servers.{stays_on, stays_so}
+use Rattle.server.proofs.Streams.{stays_on, stays_so}
 use Rattle.zone_serve.proofs.groups.answer_each.Goals as goal
 
 pub loop-place-init : goal.loop-place-init

@@ -2,7 +2,7 @@
 use Rattle.std.proofs.Common.{take}
 use Rattle.zone_serve.specs.Groups.{EachServed, contents}
 use Rattle.signed_server.specs.KeyedServers.{keyed_of}
-use Rattle.zone_serve.specs.Served.{Stays}
+use Rattle.server.specs.Serving.{Stays}
 use Rattle.zone_serve.proofs.groups.answer_each.Given as goal
 
 abbrev pub invariant-loop-place : goal.invariant-loop-place

@@ -2,7 +2,7 @@ use Rattle.std.proofs.Common.{◌++◌, [], refl, rules}
 use Rattle.std.proofs.KnownBytes.{Appends-nil, Appends-trans}
 use Rattle.zone_serve.specs.Groups.EachServed.{none}
 use Rattle.zone_serve.proofs.ServedGroups.{each_more}
-use Rattle.zone_serve.proofs.Servers.{stays_on, stays_so}
+use Rattle.server.proofs.Streams.{stays_on, stays_so}
 use Rattle.zone_serve.proofs.groups.serve_each.Goals as goal
 
 pub loop-place-init : goal.loop-place-init

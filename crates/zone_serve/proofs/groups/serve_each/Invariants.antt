@@ -3,7 +3,7 @@ use Rattle.std.proofs.Common.{ℕ, List, take}
 use Rattle.std.specs.Io.KnownBytes.{Appends}
 use Rattle.zone_serve.specs.Groups.{EachServed, contents}
 use Rattle.signed_server.specs.KeyedServers.{keyed_of}
-use Rattle.zone_serve.specs.Served.{Stays}
+use Rattle.server.specs.Serving.{Stays}
 use Rattle.zone_serve.proofs.groups.serve_each.Given as goal
 
 abbrev pub invariant-loop-place : goal.invariant-loop-place

@@ -1,7 +1,7 @@
 use Rattle.std.proofs.Common.{◌≡◌, false, refl, rules, true}
 use Rattle.signed_server.specs.declared.service.SignedServer.{SignedServer}
 use Rattle.zone_serve.specs.Groups.{contents}
-use Rattle.zone_serve.specs.Served.{Stays}
+use Rattle.server.specs.Serving.{Stays}
 use Rattle.zone_serve.proofs.Results.{on_ok}
 use Rattle.zone_serve.proofs.ServedGroups.{as_ever, settled}
 use Rattle.zone_serve.proofs.groups.serve_group.Goals as goal

@@ -4,10 +4,10 @@ use Rattle.signed_server.specs.declared.service.SignedServer.{SignedServer}
 use Rattle.hickory_catalog.specs.declared.catalog.Catalog.{Catalog}
 use Rattle.zone_serve.specs.Groups.{GroupServed, contents}
 use Rattle.signed_server.specs.KeyedServers.{keyed_of}
-use Rattle.zone_serve.specs.Served.{Stays}
+use Rattle.server.specs.Serving.{Stays}
 use Rattle.zone_serve.proofs.ServedGroups.{some_lines}
 use Rattle.zone_serve.proofs.ServedLines.{so_far_more, so_far_none}
-use Rattle.zone_serve.proofs.Servers.{stays_on, stays_so}
+use Rattle.server.proofs.Streams.{stays_on, stays_so}
 use Rattle.zone_serve.proofs.groups.serve_groups.Goals as goal
 
 pub loop-init : goal.loop-init

@@ -1,6 +1,6 @@
 -- The groups so far are served.
 use Rattle.signed_server.specs.KeyedServers.{keyed_of}
-use Rattle.zone_serve.specs.Served.{Stays}
+use Rattle.server.specs.Serving.{Stays}
 use Rattle.zone_serve.proofs.ServedLines.{LinesSoFar}
 use Rattle.zone_serve.proofs.groups.serve_groups.Given as goal
 

@@ -4,4 +4,4 @@ pub returns-in-Ok-clause-opened : goal.returns-in-Ok-clause-opened
 returns-in-Ok-clause-opened g c =
     let (apex, text, is) = c.in_ok-apex.ensures in
     let (first, second, opened) = c.in-Ok.ensures.opened in
-    (apex, text, (first, second, rw is at opened))
+    (apex, text, is, (first, second, opened))

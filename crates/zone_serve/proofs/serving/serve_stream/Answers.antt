@@ -1,7 +1,7 @@
 use Rattle.std.proofs.Common.{◌≡◌, ◌++◌, [], true, false, rules}
 use Rattle.std.proofs.KnownBytes.{Appends-nil, Appends-trans, Consumes-nil, Consumes-trans}
 use Rattle.zone_serve.specs.Served.{none}
-use Rattle.zone_serve.proofs.Servers.{stays_on, stays_so}
+use Rattle.server.proofs.Streams.{stays_on, stays_so}
 use Rattle.zone_serve.proofs.Streams.{stream_end, stream_more}
 use Rattle.zone_serve.proofs.serving.serve_stream.Goals as goal
 

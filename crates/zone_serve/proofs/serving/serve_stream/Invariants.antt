@@ -2,7 +2,8 @@
 use Rattle.std.proofs.Common.{ℕ, List}
 use Rattle.std.specs.Io.KnownBytes.{Appends, Consumes}
 use Rattle.signed_server.specs.KeyedServers.{keyed_of}
-use Rattle.zone_serve.specs.Served.{Stays, StreamServed}
+use Rattle.server.specs.Serving.{Stays}
+use Rattle.zone_serve.specs.Served.{StreamServed}
 use Rattle.zone_serve.proofs.serving.serve_stream.Given as goal
 
 abbrev pub invariant-loop : goal.invariant-loop

@@ -1,6 +1,6 @@
 use Rattle.std.proofs.Common.{◌++◌, rules}
 use Rattle.std.proofs.KnownBytes.{Appends-trans}
-use Rattle.zone_serve.proofs.Written.{frames_more, one_more}
+use Rattle.server.proofs.Written.{frames_more, one_more}
 use Rattle.zone_serve.proofs.serving.write_frames.Goals as goal
 
 pub loop-reply-preserved : goal.loop-reply-preserved

@@ -1,7 +1,7 @@
 -- The replies so far are written behind their lengths.
 use Rattle.std.proofs.Common.{ℕ, List, take}
 use Rattle.std.specs.Io.KnownBytes.{Appends}
-use Rattle.zone_serve.specs.Frames.{AreFrames}
+use Rattle.server.specs.Frames.{AreFrames}
 use Rattle.zone_serve.proofs.serving.write_frames.Given as goal
 
 abbrev pub invariant-loop-reply : goal.invariant-loop-reply

@@ -7,10 +7,10 @@ use Rattle.hickory_base.specs.zone_store.ZoneAnswers.{MemoryZone}
 use Rattle.hickory_base.specs.declared.errors.LookupError.{LookupError}
 use Rattle.hickory_base.specs.declared.errors.LookupError.TheVariants.{Memory}
 use Rattle.hickory_base.specs.declared.zone_store.lookup.AuthLookup.{AuthLookup}
-use Rattle.hickory_zone.specs.Handled.{IsLookedUp, StandsFor}
-use Rattle.hickory_zone.specs.Handled as authoritative
-use Rattle.hickory_zone.specs.Replies.{as_zone}
-use Rattle.hickory_zone.specs.Zones.{AreOwners}
+use Rattle.zone_replies.specs.Handled.{IsLookedUp, StandsFor}
+use Rattle.zone_replies.specs.Handled as authoritative
+use Rattle.zone_replies.specs.Replies.{as_zone}
+use Rattle.zone_answers.specs.Zones.{AreOwners}
 use Rattle.zones.specs.ZoneQueries.{IsAnswered, IsFound, SearchedFor}
 use Rattle.zones.specs.ZoneQueries.IsAnswered.{failed as not_replied, replied}
 use Rattle.zones.specs.ZoneQueries.IsFound.{failed as not_found, found as was_found}
@@ -19,7 +19,7 @@ use Rattle.zones.proofs.laws.owned_zones_reply.Goals as goal
 module _ (zone : MemoryZone) (owners : AreOwners zone.origin zone.sets) where
   stands : (query : Query) (result : Result AuthLookup LookupError) → IsAnswered zone query result → StandsFor zone query result
   stands query result (replied so is) = is
-  stands query result (not_replied not_so is) = absurd (not_so owners)
+  stands query result (not_replied sets not_so is) = absurd (not_so owners)
 
   or_memory : (query : Query) (result : Result AuthLookup LookupError) → IsAnswered zone query result ⊎ (result ≡ Err Memory) → StandsFor zone query result ⊎ (result ≡ Err Memory)
   or_memory query result (inl is) = inl (stands query result is)

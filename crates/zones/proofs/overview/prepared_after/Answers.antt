@@ -1,6 +1,6 @@
 -- What was made of the zone before is there.
 use Rattle.std.proofs.Common.{IfSome, subst}
-use Rattle.hickory_zone.specs.representation.PreparedZones.{IsPrepared}
+use Rattle.zone_replies.specs.representation.PreparedZones.{IsPrepared}
 use Rattle.zones.proofs.overview.prepared_after.Goals as goal
 
 pub returns-in-Some : goal.returns-in-Some

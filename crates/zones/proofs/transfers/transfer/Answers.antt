@@ -2,8 +2,8 @@
 use Rattle.std.proofs.Common.{◌≡◌, ◌∙◌, refl, rules, subst, sym, true, false}
 use Rattle.hickory_base.specs.requests.Questions.{one_query}
 use Rattle.hickory_base.specs.zone_store.ZoneAnswers.{MemoryZone}
-use Rattle.hickory_zone.specs.Handled.{is_by_soa, names_zone}
-use Rattle.hickory_zone.specs.Replies.{as_zone}
+use Rattle.zone_replies.specs.Handled.{is_by_soa, names_zone}
+use Rattle.zone_replies.specs.Replies.{as_zone}
 use Rattle.zones.proofs.GivenTransfers.{by_differences, by_soa, not_named, whole}
 use Rattle.zones.proofs.transfers.transfer.Goals as goal
 

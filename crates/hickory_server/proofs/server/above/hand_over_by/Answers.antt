@@ -1,14 +1,13 @@
 -- The sink had nothing before; where it counted no failure it has all replies.
 use Rattle.std.proofs.Common.{◌≡◌, [], arith}
-use Rattle.wire_messages.specs.declared.protocol.Protocol.TheVariants.{Tcp}
-use Rattle.hickory_base.specs.responses.EncodingSinks.{EncodedReplies}
 use Rattle.hickory_base.specs.responses.Responses.{header_of}
+use Rattle.hickory_server.specs.server.Sending.{SentReplies}
 use Rattle.hickory_server.proofs.server.above.hand_over_by.Goals as goal
 
 pub returns : goal.returns
 returns g c =
     let r = c.in-Ok.ensures.replied in
-    let empty : EncodedReplies = record { protocol = Tcp; replies = []; failures = 0 } in
+    let empty : SentReplies = record { sending = c.args.sink.now.sending; replies = []; failures = 0 } in
     let sent = rw c.requires at r.2 in
     let unfailed : c.lookup_by.new.sink.failures ≡ 0 = omega (arith, c.if-failures-gt0.false, c.failures.ensures) in
     let taken = c.replies_taken.ensures c.args.request.now.message.metadata empty c.lookup_by.new.sink r.0 (header_of c.in-Ok.field-0) sent unfailed in

@@ -1,20 +1,19 @@
-use Rattle.std.proofs.Common.{◌≡◌, rules}
+use Rattle.std.proofs.Common.{◌≡◌, IsTrue, false, length, min, rules}
 use Rattle.hickory_base.proofs.lemmas.ResultMaps.{if_ok_map}
-use Rattle.hickory_server.specs.server.Fitted.{read, unread}
-use Rattle.hickory_server.proofs.server.datagrams.cut.Goals.{in-Ok, in-Err-Memory, in-Err}
+use Rattle.hickory_server.specs.server.Fitted.{front, opt, tc}
 use Rattle.hickory_server.proofs.server.datagrams.cut.Goals as goal
 
-pub returns-clause-cut : goal.returns-clause-cut
-returns-clause-cut c =
-    let it = c.from_bytes-read.ensures in
-    let same : c.into_vec.result.items ≡ c.args.reply = search rules in
-    elim c.match-read.branch [
-      | in-Ok w ↦ rw w.shorter-is
-          (if_ok_map w.cut_to-shorter.result _ _ w.cut_to-shorter.ensures.cut
-          (λ bytes made. read (rw same at rw w.in-Ok.is at it.stands) (rw same at rw w.in-Ok.is at it.questions) (rw (c.message-message.ensures, w.message.ensures) at made)))
-      | in-Err-Memory w ↦ rw w.shorter-is tt
-      | in-Err w ↦
-          let fault = rw w.in-Err.is at it.fault in
-          rw w.shorter-is
-          (if_ok_map w.truncated-shorter.result _ _ w.truncated-shorter.ensures.reply (λ bytes made. unread (rw same at fault (search rules)) (rw (w.response_from_request-metadata.ensures, c.message-message.ensures) at made)))
-    ]
+pub returns-then-lacks_needed : goal.returns-then-lacks_needed
+returns-then-lacks_needed c =
+    let yes : IsTrue c.lacks_needed.result = search rules in
+    if_ok_map c.truncated.result _ _ c.truncated.ensures (λ bytes made. tc c.requires (c.lacks_needed.ensures.lacks yes c.args.limit) made)
+
+pub returns-in-Some : goal.returns-in-Some
+returns-in-Some c =
+    let no : c.lacks_needed.result ≡ false = search rules in
+    let most : c.min-most.result ≡ min c.args.header.now.counts.additionals (length c.args.reply.now.additionals.now) = search rules in
+    front c.requires (c.lacks_needed.ensures.has no) (rw (c.in-Some.is, most) at c.in_ok-bytes.ensures)
+
+pub returns-in-None : goal.returns-in-None
+returns-in-None c =
+    if_ok_map c.truncated-in-None.result _ _ c.truncated-in-None.ensures (λ bytes made. tc c.requires (opt (rw c.in-None.is at c.in_ok-bytes.ensures)) made)

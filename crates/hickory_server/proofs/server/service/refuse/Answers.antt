@@ -9,5 +9,4 @@ refused-requires g c = is_either c.args.rules.now c.args.request.now c.requires
 
 pub returns : goal.returns
 returns g c =
-    let (bytes, one, made) = c.in_ok-replies.ensures in
-    if_ok_map c.sent.result _ _ c.sent.ensures (λ sent are. (c.in_ok-replies.replies, refused c.requires (rw c.nsid.ensures at made) one refl, are))
+    if_ok_map c.refused.result _ _ c.refused.ensures (λ sent (bytes, one, made). refused c.requires (rw (c.nsid.ensures, c.sending.ensures) at made) one refl)

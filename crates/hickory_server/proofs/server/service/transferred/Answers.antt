@@ -5,5 +5,4 @@ use Rattle.hickory_server.proofs.server.service.transferred.Goals as goal
 
 pub returns : goal.returns
 returns g c =
-    let (replies, replied, made) = c.in_ok-replies.ensures in
-    if_ok_map c.sent.result _ _ c.sent.ensures (λ sent are. (c.in_ok-replies.replies, transferred c.requires replied made refl, are))
+    if_ok_map c.transfer_replies.result _ _ c.transfer_replies.ensures (λ sent (replies, replied, made). transferred c.requires replied (rw c.sending.ensures at made) refl)

@@ -1,9 +1,12 @@
-use Rattle.std.proofs.Common.{◌≡◌, [], ◌∷◌, rules, refl}
-use Rattle.hickory_base.proofs.lemmas.ResultMaps.{if_ok_map}
+use Rattle.std.proofs.Common.{◌≡◌, [], ◌∷◌, rules, refl, sym}
+use Rattle.std.proofs.lemmas.Bool.{false≢true}
+use Rattle.hickory_server.specs.server.Fitted.{whole}
 use Rattle.hickory_server.specs.server.ServedBy.{truncated}
 use Rattle.hickory_server.proofs.server.service.truncate.Goals as goal
 
 pub returns : goal.returns
 returns g c =
-    let one : c.push.new.self ≡ c.in_ok-truncated.field-0 ∷ [] = search rules in
-    if_ok_map c.sent.result _ _ c.sent.ensures (λ sent are. (c.push.new.self, truncated c.requires (rw (c.response_from_request-metadata.ensures, c.message-message.ensures) at c.in_ok-truncated.ensures.reply) one refl, are))
+    let (query, is, class, transfer, all, may, udp) = c.requires in
+    let one : c.push.new.self ≡ c.in_ok-bare.field-0 ∷ [] = search rules in
+    let (header, made) = rw (c.response_from_request-metadata.ensures, c.message-message.ensures, c.datagram_limit.ensures.limit) at c.in_ok-bare.ensures in
+    truncated c.requires (rw udp (whole (header, made, λ leaves. absurd (false≢true (sym leaves.0))))) one refl

@@ -6,8 +6,8 @@ use Rattle.wire_messages.specs.declared.rr.record.Record.{Record}
 use Rattle.hickory_base.specs.requests.Updates.{update_of}
 use Rattle.hickory_base.specs.declared.requests.message_request.MessageRequest.{MessageRequest}
 use Rattle.hickory_base.specs.zone_store.ZoneAnswers.{MemoryZone}
-use Rattle.hickory_zone.specs.representation.Indexes.{KeepsOthers}
-use Rattle.hickory_zone.specs.representation.PreparedZones.{IsPrepared}
+use Rattle.zone_answers.specs.representation.Indexes.{KeepsOthers}
+use Rattle.zone_replies.specs.representation.PreparedZones.{IsPrepared}
 use Rattle.zones.specs.Overviews.{IsOverview}
 use Rattle.zones.proofs.Followed.{followed, sets_are}
 use Rattle.zones.proofs.KeptOverviews.{unprepared}

@@ -2,8 +2,8 @@
 use Rattle.std.proofs.Common.{Option, subst, sym}
 use Rattle.std.specs.Prelude.{IfSome}
 use Rattle.hickory_base.specs.zone_store.ZoneAnswers.{MemoryZone}
-use Rattle.hickory_zone.specs.declared.prepared.Prepared.{Prepared}
-use Rattle.hickory_zone.specs.representation.PreparedZones.{IsPrepared}
+use Rattle.zone_replies.specs.declared.prepared.Prepared.{Prepared}
+use Rattle.zone_replies.specs.representation.PreparedZones.{IsPrepared}
 use Rattle.zones.specs.Overviews.{IsOverview}
 use Rattle.zones.proofs.overview.Overview.follow.Goals as goal
 

@@ -8,9 +8,9 @@ use Rattle.hickory_base.specs.zone_store.ZoneAnswers.{MemoryZone}
 use Rattle.hickory_base.specs.declared.errors.LookupError.{LookupError}
 use Rattle.hickory_base.specs.declared.zone_store.lookup.AuthLookup.TheVariants as lookup
 use Rattle.hickory_base.specs.declared.zone_store.lookup.WholeReply.{WholeReply}
-use Rattle.hickory_zone.specs.Handled.{in_whole}
-use Rattle.hickory_zone.specs.Replies.{RepliesTo, as_zone}
-use Rattle.hickory_zone.specs.Zones.{AreOwners}
+use Rattle.zone_replies.specs.Handled.{in_whole}
+use Rattle.zone_replies.specs.Replies.{RepliesTo, as_zone}
+use Rattle.zone_answers.specs.Zones.{AreOwners}
 use Rattle.zones.specs.ZoneQueries.{SearchedFor}
 use Rattle.zones.specs.ZoneQueries.IsAnswered.{replied}
 use Rattle.zones.proofs.overview.Overview.search_whole.Goals as goal

@@ -1,7 +1,7 @@
 -- By the origin and the sets that were read.
 use Rattle.std.proofs.Common.{subst}
 use Rattle.std.specs.Prelude.{◌↔◌, IsTrue}
-use Rattle.hickory_zone.specs.Zones.{AreOwners}
+use Rattle.zone_answers.specs.Zones.{AreOwners}
 use Rattle.zones.proofs.overview.Overview.seen.Goals as goal
 
 pub returns-clause-owned : goal.returns-clause-owned

@@ -5,5 +5,5 @@ use Rattle.zones.proofs.zone.Zone.compact.Goals as goal
 
 pub invariant_of-self-2 : goal.invariant_of-self-2
 invariant_of-self-2 g c =
-    journal_changed c.self.inside.kept c.in-Journal.zone c.compact.new.self c.self.inside.overview c.in-Journal.is (ap (λ (z : ZoneInMemory g.row.V.Denot). z.updatable) c.compact.ensures.stays)
+    journal_changed c.self.inside.kept c.in-Journal.zone c.compact.new.self c.self.inside.overview c.in-Journal.is (ap (λ (z : ZoneInMemory g.row.V.Denot). z.updatable) c.compact.ensures.others)
     c.self.invariant

@@ -1,7 +1,7 @@
 -- The overview is of the zone that is kept.
 use Rattle.std.proofs.Common.{subst}
 use Rattle.std.specs.Prelude.{◌↔◌, IsTrue}
-use Rattle.hickory_zone.specs.Zones.{AreOwners}
+use Rattle.zone_answers.specs.Zones.{AreOwners}
 use Rattle.zones.specs.ZoneStates.{ZoneState}
 use Rattle.zones.proofs.zone.Zone.is_owned.Goals as goal
 

@@ -1,8 +1,0 @@
--- What was put goes before whatever the records from here on add.
-use Rattle.std.proofs.Common.{drop}
-use Rattle.hickory_base.specs.zone_store.ZoneSets.{sets_of}
-use Rattle.hickory_zone.proofs.lemmas.replies.Hosts.{GrownSoFar}
-use Rattle.hickory_zone.proofs.additionals.append_each.Given as goal
-
-abbrev pub invariant-loop-q : goal.invariant-loop-q
-invariant-loop-q l = GrownSoFar l.source (record { origin = l.origin; sets = sets_of l.sets }) l.answers l.fn.all.items l.naming (drop l.q-index l.naming) l.all.items

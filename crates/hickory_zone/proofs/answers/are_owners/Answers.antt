@@ -1,9 +1,0 @@
-use Rattle.std.proofs.Common.{subst, sym}
-use Rattle.std.specs.Prelude.{◌↔◌, IsTrue}
-use Rattle.std.specs.List.{All}
-use Rattle.hickory_base.proofs.lemmas.zone_store.ZoneByName.{keys-shared}
-use Rattle.hickory_zone.specs.Zones.{IsOwner}
-use Rattle.hickory_zone.proofs.answers.are_owners.Goals as goal
-
-pub returns : goal.returns
-returns c = subst (λ ks. IsTrue c.are_all_owners.result ↔ All (IsOwner c.args.origin.now) ks) (sym (keys-shared c.args.sets.now.entries)) c.are_all_owners.ensures

@@ -1,8 +1,0 @@
--- The addresses of the servers at the cuts so far are told.
-use Rattle.std.proofs.Common.{take}
-use Rattle.hickory_base.specs.zone_store.ZoneSets.{sets_of}
-use Rattle.hickory_zone.specs.representation.TopCuts.{AreGlueOf}
-use Rattle.hickory_zone.proofs.cuts.Cuts.glue.Given as goal
-
-abbrev pub invariant-loop-servers : goal.invariant-loop-servers
-invariant-loop-servers l = AreGlueOf (record { origin = l.origin; sets = sets_of l.sets }) (take l.servers-index l.servers-items) l.glue.items

@@ -1,7 +1,0 @@
--- The places of the servers at the cuts so far are told.
-use Rattle.std.proofs.Common.{take}
-use Rattle.hickory_zone.specs.representation.TopCuts.{AreHostsOf}
-use Rattle.hickory_zone.proofs.cuts.Cuts.hosts.Given as goal
-
-abbrev pub invariant-loop-servers : goal.invariant-loop-servers
-invariant-loop-servers l = AreHostsOf l.origin l.sets (take l.servers-index l.servers-items) l.hosts.items

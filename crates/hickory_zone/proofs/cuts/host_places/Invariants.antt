@@ -1,7 +1,0 @@
--- The places of the hosts of the records so far are told.
-use Rattle.std.proofs.Common.{take}
-use Rattle.hickory_zone.specs.representation.TopCuts.{AreEach, IsHostPlace}
-use Rattle.hickory_zone.proofs.cuts.host_places.Given as goal
-
-abbrev pub invariant-loop-q : goal.invariant-loop-q
-invariant-loop-q l = AreEach (IsHostPlace l.origin l.sets) (take l.q-index l.servers) l.places.items

@@ -1,5 +1,0 @@
-use Rattle.hickory_zone.proofs.lemmas.replies.OneChain.{chain_once}
-use Rattle.hickory_zone.proofs.laws.chains_once.Goals as goal
-
-pub returns : goal.returns
-returns c = λ zone t left before name one other end last. chain_once zone t left before name one other end last

@@ -1,0 +1,2 @@
+-- Lemmas on answers.
+pub mod ZoneAnswersShown

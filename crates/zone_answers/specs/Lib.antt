@@ -1,0 +1,9 @@
+pub mod Additionals
+pub mod Chains
+pub mod Endings
+pub mod Redirections
+pub mod Views
+pub mod WorkedRedirections
+pub mod WorkedZones
+pub mod Zones
+pub mod representation

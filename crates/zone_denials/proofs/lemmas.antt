@@ -1,0 +1,10 @@
+-- Lemmas on names and chains.
+pub mod EnclosedBetween
+pub mod Members
+pub mod NsecChains
+pub mod NsecSound
+pub mod NsecsAmong
+pub mod Nsec3Chains
+pub mod SignedZones
+pub mod SignedZones3
+pub mod SmallZone

@@ -1,0 +1,15 @@
+pub mod Nsec
+pub mod Nsec3
+pub mod Nsec3Chain
+pub mod Nsec3Data
+pub mod Nsec3Laws
+pub mod NsecChain
+pub mod NsecData
+pub mod NsecKeys
+pub mod NsecLaws
+pub mod RrsigData
+pub mod SignedZone
+pub mod SignedZone3
+pub mod SignedZoneLaws
+pub mod TypeBits
+pub mod WorkedSignedZone

@@ -1,0 +1,2 @@
+-- Lemmas by the rooms of the code.
+pub mod replies

@@ -1,0 +1,4 @@
+pub mod Handled
+pub mod Replies
+pub mod WorkedReplies
+pub mod representation
