@@ -23,10 +23,10 @@ use hickory_base::zone_store::{
 use hickory_store::updates::laws::identities;
 use hickory_store::updates::{UpdatableZoneHandler, Verifier};
 use hickory_wire::{LowerName, LowerQuery, Record, RecordType, ResponseCode};
-use zone_replies::handled::{put_whole, records, whole};
+use std::alloc::Global;
 use zone_answers::{Features, are_owners, features_of, with_records};
 use zone_replies::Prepared;
-use std::alloc::Global;
+use zone_replies::handled::{put_whole, records, whole};
 
 /// What is known of a zone as a whole: by it the zone answers standard queries (RFC 1034 section 4.3.2), and it is
 /// followed while the zone takes updates.

@@ -9,9 +9,9 @@ use hickory_base::server::Request;
 use hickory_base::zone_store::{LookupOptions, ZoneHandler, ZoneTransfer};
 use hickory_store::updates::{UpdatableZoneHandler, Verifier};
 use hickory_wire::{LowerQuery, RecordType, ResponseCode, TSigResponseContext};
-use zone_replies::handled::{held_serial, is_by_soa, names_zone};
 use std::alloc::Global;
 use zone_differences::{History, Steps};
+use zone_replies::handled::{held_serial, is_by_soa, names_zone};
 
 /// What is answered to a request for a transfer, and what the signer of the reply has to know.
 type TransferAnswer = (
