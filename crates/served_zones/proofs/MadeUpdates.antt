@@ -1,8 +1,8 @@
 -- Messages change zones only by updates that the zones answer `Ok`.
-use Rattle.std.proofs.Common.{◌≡◌, ◌∙◌, inl, inr, ℕ, List, [], ◌∷◌, Option, Some, Ok, Err, refl, sym, ap, subst, arith}
+use Rattle.std.proofs.Common.{◌≡◌, ◌∙◌, inl, inr, ℕ, List, ◌∷◌, Option, Some, Ok, Err, refl, sym, ap, subst, arith}
 use Rattle.std.specs.Prelude.{Contains}
 use Rattle.std.proofs.lemmas.List.Elements.{All-contains, Contains-append_right}
-use Rattle.either.specs.declared.Either.TheVariants.{Left}
+use Rattle.either.specs.declared.Either.TheVariants.{Left, Right}
 use Rattle.wire_names.specs.rr.domain.DomainName.{DomainName}
 use Rattle.wire_messages.specs.Numbers.{code_not_auth, code_not_imp}
 use Rattle.hickory_base.specs.declared.errors.UpdateFault.TheVariants.{Code}
@@ -22,6 +22,7 @@ use Rattle.hickory_catalog.specs.updates.Updates.{ApexUpdated, FirstUpdated, Han
 use Rattle.hickory_catalog.specs.updates.Updates as updates
 use Rattle.hickory_catalog.specs.zones.Zones.{ChangesAt, ZoneChains}
 use Rattle.hickory_catalog.specs.declared.catalog.Catalog.{Catalog}
+use Rattle.hickory_store.specs.blocklist.BlockAnswers.{Blocklist}
 use Rattle.hickory_store.specs.declared.updates.verifier.Verifier.{Ghosts as Verifies}
 use Rattle.hickory_server.specs.server.ServedBy.{RequestServed, ServedBy, ZonesAnswer}
 use Rattle.hickory_server.specs.server.ServedBy as by_rules
@@ -31,12 +32,15 @@ use Rattle.hickory_server.specs.declared.server.rules.Rules.{Rules}
 use Rattle.hickory_server.specs.declared.server.serve.Incoming.{Incoming}
 use Rattle.hickory_server.specs.declared.server.serve.ServeError.{ServeError}
 use Rattle.hickory_server.specs.declared.server.serve.ServeError.TheVariants as serve_error
-use Rattle.served_zones.specs.ServedQueries.{AreAlone, AreMade, IsZoneAlone, ZonesAreUpdated}
+use Rattle.served_zones.specs.ServedQueries.{AreMade, AreServedChains, IsServedChain, ZonesAreUpdated}
 use Rattle.served_zones.specs.TakenUpdates.{Taken, by_answer, by_request, by_update, taken_by, taken_in, taken_without_reply}
 use Rattle.served_zones.specs.ServedZones.{ServedHandler}
 use Rattle.tsig.specs.declared.verifier.TsigVerifier.{TsigVerifier}
 use Rattle.zones.specs.ZoneStates.{ZoneState}
 use Rattle.zones.specs.ZoneUpdates.{Updates}
+
+abbrev AnyList : Blocklist → Type 0
+AnyList list = Unit {0}
 
 module _ (handler : Ghosts ServedHandler) (by : Verifies TsigVerifier)
     (updated : (zone : ZoneState TsigVerifier) (r : ReceivedRequest) (now : ℕ) (answer : UpdateResult) (context : SignerContext) (after : ServedHandler) → handler.update_gives (Left zone) r now answer context after
@@ -61,45 +65,41 @@ module _ (handler : Ghosts ServedHandler) (by : Verifies TsigVerifier)
       by_type (handler.zone_type_of (Left zone)) zone r now answer context after
       (subst (λ (h : ServedHandler). HandlerUpdated handler (handler.zone_type_of h) (r, now) h (answer, context) after) is made)
 
-  module _ {S : Type 0} (signature_for : S → Signer) (catalog : Catalog S ServedHandler) (are : AreAlone catalog.zones) (message : Incoming) (r : ReceivedRequest) (is_request : IsRequestOf message r) where
-    by_apex : (name : DomainName) (answer : UpdateResult) (context : SignerContext) (after : ZoneChains ServedHandler) → ApexUpdated handler (r, message.now) name catalog.zones (answer, context) after
-        → AreMade by message catalog.zones after (taken_by answer name (r, message.now))
-    by_apex name answer context after made = from answer (by_handler l.0 first.first r message.now answer context first.after is first.answers) where
-      changed : ChangesAt catalog.zones name (Some made.chain) (Some made.chain') after
-      changed = made.changed
-
+  module _ {S : Type 0} (signature_for : S → Signer) (catalog : Catalog S ServedHandler) (are : AreServedChains AnyList catalog.zones) (message : Incoming) (r : ReceivedRequest) (is_request : IsRequestOf message r) where
+    by_first : (name : DomainName) (answer : UpdateResult) (context : SignerContext) (after : ZoneChains ServedHandler) (made : ApexUpdated handler (r, message.now) name catalog.zones (answer, context) after)
+        (h : ServedHandler) → made.first.first ≡ h → IsServedChain AnyList (h ∷ made.first.others) → AreMade by message catalog.zones after (taken_by answer name (r, message.now))
+    by_first name answer context after made (Right list) is no_zone = absurd no_zone
+    by_first name answer context after made (Left zone) is lists = from answer (by_handler zone first.first r message.now answer context first.after is first.answers) where
       first : FirstUpdated handler (r, message.now) made.chain (answer, context) made.chain'
       first = made.first
 
-      l : IsZoneAlone made.chain
-      l =
-          let there : Contains ((changed.apex, made.chain) ∷ changed.greater) (changed.apex, made.chain) = (0, omega arith, refl) in
-          let among = subst (λ (zs : ZoneChains ServedHandler). Contains zs (changed.apex, made.chain)) (sym changed.before) (Contains-append_right changed.lesser _ _ there) in
-          All-contains (λ (s : DomainName × List ServedHandler). IsZoneAlone s.1) catalog.zones (changed.apex, made.chain) are among
-
-      lone : first.first ∷ first.others ≡ Left l.0 ∷ []
-      lone = sym first.before ∙ l.1
-
-      is : first.first ≡ Left l.0
-      is = let both = lone in cc
-
-      none : first.others ≡ []
-      none = let both = lone in cc
-
-      from : (answer : UpdateResult) → Stays l.0 r message.now context answer first.after → AreMade by message catalog.zones after (taken_by answer name (r, message.now))
-      from (Err fault) same = same_after changed (first.behind ∙ ap (λ (h : ServedHandler). h ∷ first.others) (same ∙ sym is) ∙ sym first.before)
+      from : (answer : UpdateResult) → Stays zone r message.now context answer first.after → AreMade by message catalog.zones after (taken_by answer name (r, message.now))
+      from (Err fault) same = same_after made.changed (first.behind ∙ ap (λ (h : ServedHandler). h ∷ first.others) (same ∙ sym is) ∙ sym first.before)
       from (Ok answer) (new, updates, same) =
           record {
             is_request = is_request;
             moment = refl;
-            was = l.0;
+            was = zone;
             is = new;
-            changed = subst (λ (chain : List ServedHandler). ChangesAt catalog.zones name (Some (Left l.0 ∷ [])) (Some chain) after) (first.behind ∙ ap (λ (h : ServedHandler). h ∷ first.others) same ∙ ap (λ (hs : List ServedHandler). Left new ∷ hs) none)
-                (subst (λ (chain : List ServedHandler). ChangesAt catalog.zones name (Some chain) (Some made.chain') after) l.1 changed);
+            others = first.others;
+            changed = subst (λ (chain : List ServedHandler). ChangesAt catalog.zones name (Some (Left zone ∷ first.others)) (Some chain) after) (first.behind ∙ ap (λ (h : ServedHandler). h ∷ first.others) same)
+                (subst (λ (chain : List ServedHandler). ChangesAt catalog.zones name (Some chain) (Some made.chain') after) (first.before ∙ ap (λ (h : ServedHandler). h ∷ first.others) is) made.changed);
             answer = answer;
             context = context;
             updates = updates;
           }
+
+    by_apex : (name : DomainName) (answer : UpdateResult) (context : SignerContext) (after : ZoneChains ServedHandler) → ApexUpdated handler (r, message.now) name catalog.zones (answer, context) after
+        → AreMade by message catalog.zones after (taken_by answer name (r, message.now))
+    by_apex name answer context after made = by_first name answer context after made made.first.first refl (subst (IsServedChain AnyList) made.first.before its_chain) where
+      changed : ChangesAt catalog.zones name (Some made.chain) (Some made.chain') after
+      changed = made.changed
+
+      its_chain : IsServedChain AnyList made.chain
+      its_chain =
+          let there : Contains ((changed.apex, made.chain) ∷ changed.greater) (changed.apex, made.chain) = (0, omega arith, refl) in
+          let among = subst (λ (zs : ZoneChains ServedHandler). Contains zs (changed.apex, made.chain)) (sym changed.before) (Contains-append_right changed.lesser _ _ there) in
+          All-contains (λ (s : DomainName × List ServedHandler). IsServedChain AnyList s.1) catalog.zones (changed.apex, made.chain) are among
 
     abbrev Are : ZoneChains ServedHandler → Taken → Type 0
     Are after taken = AreMade by message catalog.zones after taken

@@ -1,11 +1,15 @@
 -- What a server replies to a query from its zones.
-use Rattle.std.proofs.Common.{◌≡◌, ◌⊎◌, ◌∙◌, inl, inr, ℕ, false, List, [], ◌∷◌, Option, None, Result, Ok, Err, sym, ap, subst, arith}
-use Rattle.std.specs.Prelude.{◌==◌, Contains}
+use Rattle.std.proofs.Common.{◌≡◌, ◌⊎◌, ◌∙◌, inl, inr, ℕ, false, List, [], ◌∷◌, Option, Some, None, Result, Ok, Err, refl, sym, ap, subst, arith}
+use Rattle.std.specs.Prelude.{◌==◌, All, Contains}
+use Rattle.std.specs.Global.{Global}
+use Rattle.std.specs.List.{AllByRecursion}
+use Rattle.std.specs.declared.rc.Rc.{Rc}
 use Rattle.std.proofs.lemmas.Bool.{false≢true, ne_eqb}
-use Rattle.std.proofs.lemmas.List.Elements.{All-contains}
-use Rattle.either.specs.declared.Either.TheVariants.{Left}
+use Rattle.std.proofs.lemmas.List.Elements.{All-contains, All-weaker, recursion_from_All}
+use Rattle.either.specs.declared.Either.TheVariants.{Left, Right}
 use Rattle.wire_names.specs.rr.domain.DomainName.{DomainName}
-use Rattle.wire_messages.specs.Numbers.{opcode_query, opcode_update, type_axfr}
+use Rattle.wire_names.specs.rr.domain.NameOrder.{lower_name}
+use Rattle.wire_messages.specs.Numbers.{code_serv_fail, opcode_query, opcode_update, type_axfr}
 use Rattle.wire_messages.specs.op.EdnsFields.{EdnsFields}
 use Rattle.wire_messages.specs.serialize.writing.Reply.{Reply}
 use Rattle.wire_messages.specs.declared.op.query.Query.{Query}
@@ -15,7 +19,7 @@ use Rattle.wire_reading.specs.serialize.reading.MessageReading.{Fault, Reads}
 use Rattle.wire_reading.specs.declared.op.message.Message.{Message}
 use Rattle.hickory_base.specs.requests.Questions.{one_query}
 use Rattle.hickory_base.specs.requests.RequestReading.{message_of}
-use Rattle.hickory_base.specs.requests.Requests.{ReceivedRequest}
+use Rattle.hickory_base.specs.requests.Requests.{ReceivedRequest, RequestInformation, information}
 use Rattle.hickory_base.specs.zone_store.Lookups.{Flow, SignerContext}
 use Rattle.hickory_base.specs.zone_store.ZoneAnswers.{MemoryZone}
 use Rattle.hickory_base.specs.declared.errors.LookupError.{LookupError}
@@ -24,8 +28,8 @@ use Rattle.hickory_base.specs.declared.requests.message_request.MessageRequest.{
 use Rattle.hickory_base.specs.declared.zone_store.handler.ZoneHandler.{Ghosts}
 use Rattle.hickory_base.specs.declared.zone_store.lookup.LookupControlFlow.TheVariants.{Continue}
 use Rattle.hickory_base.specs.declared.zone_store.lookup.LookupOptions.{LookupOptions}
-use Rattle.hickory_catalog.specs.queries.Queries.{HandlerReply, ZoneReply, is_out_of_memory}
-use Rattle.hickory_catalog.specs.replies.Replies.{Contents, unsigned_reply}
+use Rattle.hickory_catalog.specs.queries.Queries.{HandlerReply, ZoneReply, consult_options, is_out_of_memory}
+use Rattle.hickory_catalog.specs.replies.Replies.{Contents, error_contents, unsigned_reply}
 use Rattle.hickory_catalog.specs.replies.ReplyEdns.{reply_edns}
 use Rattle.hickory_catalog.specs.replies.Signing.{Signer}
 use Rattle.hickory_catalog.specs.requests.Requests.{RequestAnswered}
@@ -41,6 +45,7 @@ use Rattle.hickory_server.specs.server.Above.{FindsAbove}
 use Rattle.hickory_server.specs.server.Sending.{IsSentAs, sending_of}
 use Rattle.hickory_server.specs.server.ServedBy.{RequestServed, ZonesAnswer}
 use Rattle.hickory_server.specs.server.ServedBy as by_rules
+use Rattle.hickory_server.specs.server.ServedLaws.{IsFor}
 use Rattle.hickory_server.specs.server.ServedLaws as for_laws
 use Rattle.hickory_server.specs.server.Serving.{IsRequestOf}
 use Rattle.hickory_server.specs.declared.server.answer.Answer.{Answer}
@@ -48,8 +53,11 @@ use Rattle.hickory_server.specs.declared.server.answer.Answer.TheVariants.{Repli
 use Rattle.hickory_server.specs.declared.server.rules.Rules.{Rules}
 use Rattle.hickory_server.specs.declared.server.rules.Ruling.TheVariants.{Pass, Refuse, Transfer, Truncate}
 use Rattle.hickory_server.specs.declared.server.serve.Incoming.{Incoming}
-use Rattle.served_zones.proofs.LoneHandlers.{Found, IsSaid, by_nearest, by_nobody, chain_replied, query_replied, replied_alone}
-use Rattle.served_zones.specs.ServedQueries.{AreAlone, IsPlainQuery, IsSaidBy, IsSaidByZone, IsZoneAlone, QueriesAreAnswered, by_failure, by_none, by_reply, by_zone}
+use Rattle.hickory_store.specs.blocklist.BlockAnswers.{Blocklist, ConsultedBy, IsBlockedBy}
+use Rattle.hickory_store.specs.declared.blocklist.config.BlocklistConsultAction.{BlocklistConsultAction}
+use Rattle.hickory_store.specs.declared.blocklist.config.BlocklistConsultAction.TheVariants.{Disabled, Enforce, Log}
+use Rattle.served_zones.proofs.LoneHandlers.{Found, IsSaid, Leaves, WantsMemory, by_nearest, by_nobody, chain_replied, query_replied, replied_by_first, replied_by_none}
+use Rattle.served_zones.specs.ServedQueries.{AreServedChains, IsListThat, IsPlainQuery, IsSaidBy, IsSaidByZone, IsServedChain, LetsPass, QueriesAreAnswered, by_empty, by_failure, by_none, by_reply, by_zone}
 use Rattle.served_zones.specs.ServedZones.{ServedHandler}
 use Rattle.tsig.specs.declared.verifier.TsigVerifier.{TsigVerifier}
 use Rattle.zones.specs.Laws.{OwnedZonesAreLookedUp}
@@ -97,16 +105,43 @@ not_transferred rules r pass (query, is, class, incremental, may) = (pass.0 quer
 
 -- ---- the zones
 
--- a chain of a zone alone, which says this to a question
-abbrev Says : ReceivedRequest → Query → DomainName × List ServedHandler → Contents → Type 0
-Says r question served contents = (zone : ZoneState TsigVerifier) × (served.1 ≡ Left zone ∷ []) × IsSaidByZone zone.updatable.zone r question contents
+-- What a chain says to a question: what its zone says, or SERVFAIL if it is empty.
+pub data Says (r : ReceivedRequest) (question : Query) (served : DomainName × List ServedHandler) (contents : Contents) : Type 0 where
+  of_zone : {zone : ZoneState TsigVerifier} {lists : List ServedHandler} → served.1 ≡ Left zone ∷ lists → IsSaidByZone zone.updatable.zone r question contents → Says r question served contents
+  of_empty : served.1 ≡ [] → contents ≡ error_contents r.message.metadata code_serv_fail → Says r question served contents
+
+said_for : (zones : List (DomainName × List ServedHandler)) (r : ReceivedRequest) (question : Query) (contents : Contents) (served : DomainName × List ServedHandler) → IsFor zones r served → Says r question served contents
+    → IsSaidBy zones r question contents
+said_for zones r question contents served for_it (of_zone chain says) = by_zone (subst (λ (hs : List ServedHandler). IsFor zones r (served.0, hs)) chain for_it) says
+said_for zones r question contents served for_it (of_empty chain is) = by_empty (subst (λ (hs : List ServedHandler). IsFor zones r (served.0, hs)) chain for_it) is
 
 module _ (handler : Ghosts ServedHandler)
     (searches : (zone : ZoneState TsigVerifier) (r : ReceivedRequest) (options : LookupOptions) (flow : Flow) (context : SignerContext) → handler.search_gives (Left zone) r options flow context → Searched zone.updatable.zone r flow × (context ≡ None))
     (type : (zone : ZoneState TsigVerifier) → handler.zone_type_of (Left zone) ≡ zone.updatable.zone.zone_type)
     (no_proofs : (zone : ZoneState TsigVerifier) → handler.nx_proof_kind_of (Left zone) ≡ None)
     (looks : (zone : ZoneState TsigVerifier) (options : LookupOptions) (flow : Flow) → handler.lookup_gives (Left zone) (handler.origin_of (Left zone)) 6 None options flow → LookedUp zone.updatable.zone zone.updatable.zone.origin 6 flow)
-    (owned : OwnedZonesAreLookedUp) where
+    (owned : OwnedZonesAreLookedUp)
+    (consults : (list : Rc Blocklist Global) (name : DomainName) (t : ℕ) (info : Option RequestInformation) (options : LookupOptions) (last answer : Flow) (context : SignerContext)
+    → handler.consult_gives (Right list) name t info options last answer context → ConsultedBy list.value.config.consult_action list.value name t last answer × (context ≡ None)) where
+  -- a list that does not block a name leaves what is answered for it
+  left_free : (action : BlocklistConsultAction) (list : Blocklist) (name : DomainName) (t : ℕ) (last answer : Flow) → ¬ (IsBlockedBy list name) → ConsultedBy action list name t last answer → (answer ≡ last) ⊎ WantsMemory answer
+  left_free Enforce list name t last answer free (inl (blocked, is)) = absurd (free blocked)
+  left_free Enforce list name t last answer free (inr (inl (not, same))) = inl same
+  left_free Enforce list name t last answer free (inr (inr memory)) = inr memory
+  left_free Disabled list name t last answer free same = inl same
+  left_free Log list name t last answer free same = inl same
+
+  leaves_it : (r : ReceivedRequest) (question : Query) (options : LookupOptions) (h : ServedHandler) → IsListThat (LetsPass question) h → Leaves handler (information r question) options h
+  leaves_it r question options (Left zone) is = absurd is
+  leaves_it r question options (Right list) free = λ last answer fresh gave.
+      let c = consults list (lower_name question.name) question.query_type (Some (information r question)) options last answer fresh gave in
+      (left_free list.value.config.consult_action list.value (lower_name question.name) question.query_type last answer free c.0, c.1)
+
+  all_leave : (r : ReceivedRequest) (question : Query) (options : LookupOptions) (lists : List ServedHandler) → All (IsListThat (LetsPass question)) lists → AllByRecursion (Leaves handler (information r question) options) lists
+  all_leave r question options lists free =
+      recursion_from_All (Leaves handler (information r question) options) lists
+      (All-weaker (IsListThat (LetsPass question)) (Leaves handler (information r question) options) (leaves_it r question options) lists free)
+
   -- what the zone gives for the question, and what the catalog makes of it
   abbrev Stands : MemoryZone → Query → Found → Type 0
   Stands zone question result = IsAnswered zone question result ⊎ (result ≡ Err Memory)
@@ -130,7 +165,7 @@ module _ (handler : Ghosts ServedHandler)
 
   module _ {S : Type 0} (signature_for : S → Signer) (same : (bytes : List ℕ) (m n : Message) → Reads bytes m → Reads bytes n → m ≡ n)
       (no_fault : (bytes : List ℕ) (m : Message) (e : DecodeError) → Reads bytes m → Fault bytes e → ⊥) where
-    module _ (catalog : Catalog S ServedHandler) (are : AreAlone catalog.zones) (r : ReceivedRequest) (question : Query) (is : IsQuery r.message question) (no_transfer : (question.query_type == type_axfr) ≡ false) (now : ℕ) where
+    module _ (catalog : Catalog S ServedHandler) (r : ReceivedRequest) (question : Query) (are : AreServedChains (LetsPass question) catalog.zones) (is : IsQuery r.message question) (no_transfer : (question.query_type == type_axfr) ≡ false) (now : ℕ) where
       abbrev server : Server ServedHandler
       server = server_of handler signature_for catalog
 
@@ -140,21 +175,28 @@ module _ (handler : Ghosts ServedHandler)
       asks : one_query r.message.queries.queries ≡ Ok question
       asks = one_is r.message opcode_query question is
 
+      by_handlers : (apex : DomainName) (chain : List ServedHandler) → IsServedChain (LetsPass question) chain → (reply : Reply) → ZoneReply server chain (record { request = r; query = question }) edns now reply
+          → (contents : Contents) × Says r question (apex, chain) contents × (reply ≡ unsigned_reply r.message edns contents)
+      by_handlers apex [] is_chain reply replies =
+          (error_contents r.message.metadata code_serv_fail, of_empty refl refl, replied_by_none server r question edns now reply no_transfer replies)
+      by_handlers apex (Left zone ∷ lists) free reply replies =
+          let leave = all_leave r question (consult_options edns) lists free in
+          let m = replied_by_first server (Left zone) lists r question (Stands zone.updatable.zone question) (IsSaidByZone zone.updatable.zone r question) (gives zone r question asks) (said zone r question) edns now reply no_transfer leave replies in
+          (m.0, of_zone refl m.1, m.2)
+      by_handlers apex (Right list ∷ others) is_chain reply replies = absurd is_chain
+
       by_chain : (served : DomainName × List ServedHandler) → Contains catalog.zones served → (reply : Reply) → ZoneReply server served.1 (record { request = r; query = question }) edns now reply
           → (contents : Contents) × Says r question served contents × (reply ≡ unsigned_reply r.message edns contents)
       by_chain served among reply replies =
-          let l : IsZoneAlone served.1 = All-contains (λ (s : DomainName × List ServedHandler). IsZoneAlone s.1) catalog.zones served are among in
-          let here = subst (λ (chain : List ServedHandler). ZoneReply server chain (record { request = r; query = question }) edns now reply) l.1 replies in
-          let m = replied_alone server (Left l.0) r question (Stands l.0.updatable.zone question) (IsSaidByZone l.0.updatable.zone r question) (gives l.0 r question asks) (said l.0 r question) edns now reply no_transfer here in
-          (m.0, (l.0, l.1, m.1), m.2)
+          by_handlers served.0 served.1 (All-contains (λ (s : DomainName × List ServedHandler). IsServedChain (LetsPass question) s.1) catalog.zones served are among) reply replies
 
       abbrev One : List Reply → Type 0
       One replies = (contents : Contents) × IsSaidBy catalog.zones r question contents × (replies ≡ unsigned_reply r.message edns contents ∷ [])
 
       by_nearest_zone : FindsAbove catalog.zones r.message None → (contents : Contents) → IsSaid server r question (Says r question) contents → IsSaidBy catalog.zones r question contents
       by_nearest_zone not_above contents (by_nobody none is) = by_none not_above none is
-      by_nearest_zone not_above contents (by_nearest zone nearest (state, chain, says)) =
-          by_zone (for_laws.own not_above (record { query = question; asks = asks; nearest = nearest })) chain says
+      by_nearest_zone not_above contents (by_nearest zone nearest says) =
+          said_for catalog.zones r question contents zone (for_laws.own not_above (record { query = question; asks = asks; nearest = nearest })) says
 
       answered : FindsAbove catalog.zones r.message None → (replies : List Reply) (after : ZoneChains ServedHandler) → RequestAnswered server r now replies after → One replies
       answered not_above replies after (requests.refused fault _ _) = let fine = looked_into r.message question is in absurd cc
@@ -167,8 +209,7 @@ module _ (handler : Ghosts ServedHandler)
       from_zones replies after (by_rules.own not_above answers) = answered not_above replies after answers
       from_zones replies after (by_rules.above {zone = zone} asked answers _) =
           let s = chain_replied server r question edns now (Says r question) asks no_transfer by_chain zone asked.nearest.among replies answers in
-          let (state, chain, says) = s.1 in
-          (s.0, by_zone (for_laws.above asked) chain says, s.2)
+          (s.0, said_for catalog.zones r question s.0 zone (for_laws.above asked) s.1, s.2)
 
       abbrev OneSent : Rules → List (List ℕ) → Type 0
       OneSent rules sent = (contents : Contents) × IsSaidBy catalog.zones r question contents × (bytes : List ℕ) × (sent ≡ bytes ∷ []) × IsSentAs (sending_of rules r) (unsigned_reply r.message edns contents) bytes
@@ -189,7 +230,7 @@ module _ (handler : Ghosts ServedHandler)
     reply rules catalog message question answer after are plain (by_rules.unreadable _ _ _ fault _ _) =
         absurd (no_fault message.bytes.items (message_of plain.request.message) fault.fault plain.is_request.reads fault.first)
     reply rules catalog message question answer after are plain (by_rules.request {request = r} {sent = sent} _ _ _ is served told) =
-        let a = by_request catalog are r question (read_so same rules message question plain r is) (ne_eqb question.query_type type_axfr (λ axfr. plain.no_transfer (inl axfr))) message.now
+        let a = by_request catalog r question are (read_so same rules message question plain r is) (ne_eqb question.query_type type_axfr (λ axfr. plain.no_transfer (inl axfr))) message.now
         rules (passes same rules message question plain r is) sent after served in
         let (contents, said_so, bytes, one, is_sent) = a in (
           r,

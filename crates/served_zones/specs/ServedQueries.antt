@@ -1,10 +1,10 @@
 -- What a server replies to a query from its zones, and how messages change them.
 use Rattle.std.specs.Prelude.{◌≡◌, ◌≤◌, ◌∷◌, [], ℕ, All, Bool, List, Ok, Option, None, Some, length}
-use Rattle.either.specs.declared.Either.TheVariants.{Left}
+use Rattle.either.specs.declared.Either.TheVariants.{Left, Right}
 use Rattle.wire_names.specs.rr.domain.DomainName.{DomainName}
 use Rattle.wire_names.specs.rr.domain.NameOrder.{lower_name}
 use Rattle.wire_names.specs.declared.error.ProtoError.{ProtoError}
-use Rattle.wire_messages.specs.Numbers.{code_refused}
+use Rattle.wire_messages.specs.Numbers.{code_refused, code_serv_fail}
 use Rattle.wire_messages.specs.declared.op.query.Query.{Query}
 use Rattle.hickory_base.specs.requests.RequestReading.{IsFaultOf}
 use Rattle.hickory_base.specs.requests.Requests.{ReceivedRequest, TimedRequest}
@@ -33,6 +33,7 @@ use Rattle.hickory_server.specs.declared.server.serve.Incoming.{Incoming}
 use Rattle.hickory_server.specs.declared.server.serve.ServeError.{ServeError}
 use Rattle.hickory_server.specs.zone_handler.ZoneReplies.{SaysTheReply}
 use Rattle.zone_answers.specs.Zones.{AreOwners}
+use Rattle.hickory_store.specs.blocklist.BlockAnswers.{Blocklist, IsBlockedBy}
 use Rattle.hickory_store.specs.declared.updates.verifier.Verifier.{Ghosts as Verifies}
 use Rattle.served_zones.specs.ServedZones.{Chain, ServedHandler}
 use Rattle.served_zones.specs.TakenUpdates.{Taken, taken_in, taken_without_reply}
@@ -41,12 +42,24 @@ use Rattle.zones.specs.ZoneQueries.{failure}
 use Rattle.zones.specs.ZoneStates.{ZoneState}
 use Rattle.zones.specs.ZoneUpdates.{Updates}
 
--- The chain is a zone, and no list of blocked names is asked after it.
-abbrev pub IsZoneAlone : Chain → Type 0
-IsZoneAlone chain = (zone : ZoneState TsigVerifier) × (chain ≡ Left zone ∷ [])
+-- The handler is a list of blocked names that is so.
+abbrev pub IsListThat : (Blocklist → Type 0) → ServedHandler → Type 0
+IsListThat IsSo (Left zone) = ⊥
+IsListThat IsSo (Right list) = IsSo list.value
 
-abbrev pub AreAlone : ZoneChains ServedHandler → Type 0
-AreAlone zones = All (λ served. IsZoneAlone served.1) zones
+-- The chain is a zone, and after it lists of blocked names that are so; or it is empty, since no file of its zone was
+-- taken.
+abbrev pub IsServedChain : (Blocklist → Type 0) → Chain → Type 0
+IsServedChain IsSo [] = Unit {0}
+IsServedChain IsSo (Left zone ∷ lists) = All (IsListThat IsSo) lists
+IsServedChain IsSo (Right list ∷ others) = ⊥
+
+abbrev pub AreServedChains : (Blocklist → Type 0) → ZoneChains ServedHandler → Type 0
+AreServedChains IsSo zones = All (λ served. IsServedChain IsSo served.1) zones
+
+-- The list does not block the name of the question.
+abbrev pub LetsPass : Query → Blocklist → Type 0
+LetsPass question list = ¬ (IsBlockedBy list (lower_name question.name))
 
 -- The message is a query of this one question, of a class that is served and for no transfer, from an address that may
 -- use the server.
@@ -72,11 +85,12 @@ pub data IsSaidByZone (zone : MemoryZone) (request : ReceivedRequest) (question 
 
 -- What the reply to a question says: REFUSED, if no zone answers for the name (RFC 1035 section 4.1.1); or what the
 -- zone says that the request is for: the nearest to the name (RFC 1034 section 4.3.2, step 2), or for the DS records of
--- an apex the nearest above it (RFC 4035 section 3.1.4.1).
+-- an apex the nearest above it (RFC 4035 section 3.1.4.1). If no file of that zone was taken, it is SERVFAIL.
 pub data IsSaidBy (zones : ZoneChains ServedHandler) (request : ReceivedRequest) (question : Query) (contents : Contents) : Type 0 where
   by_none : FindsAbove zones request.message None → Finds zones (lower_name question.name) None → contents ≡ error_contents request.message.metadata code_refused → IsSaidBy zones request question contents
-  by_zone : {apex : DomainName} {chain : Chain} {zone : ZoneState TsigVerifier} → IsFor zones request (apex, chain)
-      → chain ≡ Left zone ∷ [] → IsSaidByZone zone.updatable.zone request question contents → IsSaidBy zones request question contents
+  by_zone : {apex : DomainName} {zone : ZoneState TsigVerifier} {lists : Chain} → IsFor zones request (apex, Left zone ∷ lists)
+      → IsSaidByZone zone.updatable.zone request question contents → IsSaidBy zones request question contents
+  by_empty : {apex : DomainName} → IsFor zones request (apex, []) → contents ≡ error_contents request.message.metadata code_serv_fail → IsSaidBy zones request question contents
 
 -- One message leaves: what is sent of a reply that says this, with the question and, if the request has EDNS, with an OPT
 -- record. Over UDP it is within the limits of client and server.
@@ -85,11 +99,11 @@ pub record IsSentAlone (rules : Rules) (identifier : Option (List ℕ)) (request
   pub sent : IsSentAs (sending_of rules request) (unsigned_reply request.message (reply_edns identifier request.message.edns) contents) bytes
   pub answer_is : answer ≡ Replies (bytes ∷ [])
 
--- A server answers such a query by its zones.
+-- A server answers such a query by its zones, if no list blocks its name.
 abbrev pub QueriesAreAnswered : {S : Type 0} → Ghosts ServedHandler → (S → Signer) → Type 0
 QueriesAreAnswered {S} handler signature_for =
     (rules : Rules) (catalog : Catalog S ServedHandler) (message : Incoming) (question : Query) (answer : Answer) (after : ZoneChains ServedHandler)
-    → AreAlone catalog.zones → IsPlainQuery rules message question → ServedBy rules (server_of handler signature_for catalog) message answer after
+    → AreServedChains (LetsPass question) catalog.zones → IsPlainQuery rules message question → ServedBy rules (server_of handler signature_for catalog) message answer after
     → (request : ReceivedRequest) × IsRequestOf message request × (contents : Contents)
     × IsSaidBy catalog.zones request question contents × IsSentAlone rules catalog.nsid request contents answer
 
@@ -100,7 +114,8 @@ pub record MakesUpdate (by : Verifies TsigVerifier) (message : Incoming) (old ne
   pub moment : update.1 ≡ message.now
   pub was : ZoneState TsigVerifier
   pub is : ZoneState TsigVerifier
-  pub changed : ChangesAt old name (Some (Left was ∷ [])) (Some (Left is ∷ [])) new
+  pub others : Chain
+  pub changed : ChangesAt old name (Some (Left was ∷ others)) (Some (Left is ∷ others)) new
   pub answer : Bool
   pub context : SignerContext
   pub updates : Updates by was update (Ok answer) context is
@@ -113,7 +128,7 @@ AreMade by message old new (Some taken) = MakesUpdate by message old new taken.0
 -- A message changes zones just by the update that was taken, also if memory is refused for its reply.
 abbrev pub ZonesAreUpdated : {S : Type 0} → Ghosts ServedHandler → (S → Signer) → Verifies TsigVerifier → Type 0
 ZonesAreUpdated {S} handler signature_for by =
-    (rules : Rules) (catalog : Catalog S ServedHandler) (message : Incoming) (after : ZoneChains ServedHandler) → AreAlone catalog.zones
+    (rules : Rules) (catalog : Catalog S ServedHandler) (message : Incoming) (after : ZoneChains ServedHandler) → AreServedChains (λ list. Unit {0}) catalog.zones
     → ((answer : Answer) (served : ServedBy rules (server_of handler signature_for catalog) message answer after) → AreMade by message catalog.zones after (taken_in served))
     × ((e : ServeError) (left : LeavesUnserved rules.access (server_of handler signature_for catalog) message e after)
     → AreMade by message catalog.zones after (taken_without_reply rules.access (server_of handler signature_for catalog) message after e left))

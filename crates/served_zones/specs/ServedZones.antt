@@ -13,6 +13,7 @@ use Rattle.hickory_base.specs.zone_store.ZoneAnswers.{MemoryZone}
 use Rattle.hickory_base.specs.zone_store.ZoneSets.{IsZone}
 use Rattle.hickory_catalog.specs.zones.Zones.{ChangesAt}
 use Rattle.hickory_store.specs.blocklist.BlockAnswers.{Blocklist}
+use Rattle.hickory_store.specs.declared.blocklist.config.BlocklistConfig.{BlocklistConfig}
 use Rattle.hickory_store.specs.declared.blocklist.config.BlocklistConsultAction.TheVariants.{Enforce}
 use Rattle.name_lists.specs.Adding.{AddsList}
 use Rattle.name_lists.specs.Counts.{Counts}
@@ -90,10 +91,23 @@ pub record IsLoadedAs (IsOfFile : DomainName → MemoryZone → Type 0) (text : 
   pub chained : IsChain (Left (loaded zone)) list chain
   pub changed : ChangesAt old (lower_name apex) None (Some chain) new
 
--- A list of blocked names without a name. The addresses of a name on it are 0.0.0.0 and ::, whatever the zone of the
--- name has.
+-- How names are blocked: their addresses are 0.0.0.0 and ::, whatever their zone has. An entry `*.` with two labels or
+-- more after it blocks the names below these.
+abbrev pub blocking : BlocklistConfig
+blocking = record {
+  wildcard_match = true;
+  min_wildcard_depth = 2;
+  sinkhole_ipv4 = None;
+  sinkhole_ipv6 = None;
+  ttl = 86400;
+  block_message = None;
+  consult_action = Enforce;
+  log_clients = true;
+}
+
+-- A list of blocked names without a name.
 abbrev pub IsEmptyList : Blocklist → Type 0
-IsEmptyList list = (list.entries ≡ []) × (list.config.consult_action ≡ Enforce) × (list.config.sinkhole_ipv4 ≡ None) × (list.config.sinkhole_ipv6 ≡ None)
+IsEmptyList list = (list.entries ≡ []) × (list.config ≡ blocking)
 
 -- Lists are added to a list of blocked names one after the other, in this order. Each gives a name.
 pub data AddsLists : List (List ℕ) → Blocklist → Blocklist → Type 0 where

@@ -1,9 +1,8 @@
 //! Lists of blocked names.
 
-ghost use Rattle.std.specs.Prelude.{◌≡◌, IfOk, None, OnErr};
-ghost use Rattle.hickory_store.specs.declared.blocklist.config.BlocklistConsultAction.TheVariants.{Enforce};
+ghost use Rattle.std.specs.Prelude.{◌≡◌, IfOk, OnErr};
 ghost use Rattle.name_lists.specs.Adding.{AddsList, AddsSome};
-ghost use Rattle.served_zones.specs.ServedZones.{IsEmptyList};
+ghost use Rattle.served_zones.specs.ServedZones.{IsEmptyList, blocking};
 
 use hickory_server::proto::Name;
 use hickory_server::store::blocklist::{
@@ -14,9 +13,7 @@ use std::alloc::{AllocError, Global};
 
 /// How blocked names are answered: their addresses are 0.0.0.0 and `::`, whatever their zone has.
 fn blocking() -> BlocklistConfig
-    ensures action { result.consult_action ≡ Enforce }
-    ensures ipv4 { result.sinkhole_ipv4 ≡ None }
-    ensures ipv6 { result.sinkhole_ipv6 ≡ None }
+    ensures { result ≡ blocking }
 {
     let mut config = BlocklistConfig::default();
     config.consult_action = BlocklistConsultAction::Enforce;

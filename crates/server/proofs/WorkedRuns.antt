@@ -1,5 +1,6 @@
 -- From what the calls of a server say to the steps of a run.
-use Rattle.std.proofs.Common.{◌≡◌, ◌∙◌, ◌++◌, ◌∷◌, [], ℕ, List, Option, Some, None, Result, Ok, Err, IfErr, IfOk, OnOk, ap, refl, subst, sym, take}
+use Rattle.std.proofs.Common.{◌≡◌, ◌∙◌, ◌++◌, ◌∷◌, [], ℕ, Bool, List, Option, Some, None, Result, Ok, Err, IfErr, IfOk, IsOk, OnErr, OnOk, ap, arith, codes, inl, inr, refl, subst, sym, take}
+use Rattle.std.proofs.lemmas.List.Elements.{All-from_recursion}
 use Rattle.std.specs.List.{AllZip}
 use Rattle.std.specs.declared.net.SocketAddr.{SocketAddr}
 use Rattle.wire_messages.specs.declared.protocol.Protocol.{Protocol}
@@ -14,10 +15,13 @@ use Rattle.hickory_server.specs.declared.server.serve.Incoming.{Incoming}
 use Rattle.hickory_server.specs.declared.server.serve.ServeError.{ServeError}
 use Rattle.hickory_server.specs.declared.server.serve.ServeError.TheVariants as errors
 use Rattle.served_zones.specs.ServedZones.{ServedHandler}
+use Rattle.server_limits.specs.Limits.{Limits}
 use Rattle.server_reports.specs.declared.log.QueryLog.{QueryLog}
+use Rattle.wire_names.specs.rr.domain.NameText.{IsNameByte, IsNameText, IsTextLabel, name_text}
 use Rattle.signed_server.specs.KeyedServers.{over}
 use Rattle.signed_server.specs.ServedWithKeys.{LeavesWithKeys, ServedWithKeys}
 use Rattle.signed_server.specs.declared.placeholders.LeftToServer.{LeftToServer}
+use Rattle.server.specs.Limited.{AreLimitsOf}
 use Rattle.server.specs.Run.{Answers, AreKept, CameInTurn, Event, IsAsBefore, IsOfStream, Run, StreamGoesOn, arrived, first_came, goes_on, keyed, none_came}
 use Rattle.server.specs.Run.Event.{message_came}
 use Rattle.server.specs.Serving.{EndsStream, Exchange, IsAnsweredStream, IsRefused, StreamBytes, next, none, standing_of, waiting_in}
@@ -30,6 +34,32 @@ use Rattle.server.specs.declared.service.Service.{Service}
 pub on_ok : {T E P : Type 0} (result : Result T E) → P → OnOk result P
 on_ok (Ok value) holds = holds
 on_ok (Err e) holds = tt
+
+pub then_ok : {T E P Q : Type 0} (result : Result T E) → OnOk result P → (P → Q) → OnOk result Q
+then_ok (Ok value) holds then = then holds
+then_ok (Err e) holds then = tt
+
+pub then_err : {T E P Q : Type 0} (result : Result T E) → OnErr result P → (P → Q) → OnErr result Q
+then_err (Ok value) holds then = tt
+then_err (Err e) holds then = then holds
+
+pub of_ok : {T E P : Type 0} (result : Result T E) → IsOk result → OnOk result P → P
+of_ok (Ok value) is holds = holds
+of_ok (Err e) is holds = absurd cc
+
+-- ---- settings
+
+pub named_k : (is_fqdn : Bool) (text : List ℕ) → text ≡ name_text (codes "k" ∷ []) is_fqdn → IsNameText text (record { labels = codes "k" ∷ []; is_fqdn = is_fqdn })
+named_k is_fqdn text spelled = record {
+  some = λ is. absurd cc;
+  each = All-from_recursion IsTextLabel (codes "k" ∷ []) (inr ((omega arith, omega arith), All-from_recursion IsNameByte (codes "k") (inl (omega arith, omega arith), tt)), tt);
+  short = omega arith;
+  spelled = spelled;
+}
+
+pub none_at_0 : (slip : ℕ) (limits : Option Limits) → AreLimitsOf 0 slip limits → limits ≡ None
+none_at_0 slip None is = refl
+none_at_0 slip (Some limits) is = absurd (is.0 refl)
 
 module _ (handler : Ghosts ServedHandler) (signature_for : LeftToServer → Signer) (old : Service) (message : Incoming) (bytes : List ℕ) (is : bytes ≡ message.bytes.items) (after : ZoneChains ServedHandler) where
   served : (answer : Answer) → ServedWithKeys (keyed handler signature_for old) (arrival bytes message.src message.protocol message.now) answer after → Answers handler signature_for old message (Ok answer) after

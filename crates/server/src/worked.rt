@@ -1,17 +1,26 @@
-//! Worked examples of runs: what the calls of a server make is one.
+//! Worked examples: what the calls of a server make is a run, and what settings are by their texts.
 
-ghost use Rattle.std.specs.Prelude.{◌≡◌, ◌∷◌, [], IfOk, List, OnOk, Result, take, true};
+ghost use Rattle.std.specs.Prelude.{◌≡◌, ◌∷◌, [], IfOk, IsOk, List, None, OnErr, OnOk, Result, codes, take, true};
 ghost use Rattle.hickory_server.specs.declared.server.answer.Answer.{Answer};
 ghost use Rattle.hickory_server.specs.declared.server.serve.ServeError.{ServeError};
+ghost use Rattle.served_keys.specs.ServedKeys.{IsKeyName};
 ghost use Rattle.server.specs.Run.{Event, Run, StreamGoesOn};
-ghost use Rattle.server.specs.Run.Event.{batch_begun, batch_ended, journal_opened, keys_set, message_came, other_set, rule_added, rules_given, updates_stopped, zone_added};
+ghost use Rattle.server.specs.Run.Event.{batch_begun, batch_ended, journal_failed, journal_opened, keys_set, list_set, message_came, other_set, rule_added, rules_given, updates_stopped, zone_added, zone_failed};
+ghost use Rattle.server.specs.Settings.{rules_of, with_rules};
+ghost use Rattle.server_limits.specs.Access.{Network};
+ghost use Rattle.server_limits.specs.NetworkTexts.{IsNetworkText};
+ghost use Rattle.server_limits.specs.declared.access_control.Family.TheVariants.{Ipv4};
+ghost use Rattle.update_policy.specs.RuleTexts.{IsRuleText};
+ghost use Rattle.update_policy.specs.declared.policy.Scope.TheVariants.{OwnName};
 ghost use Rattle.wire_names.specs.rr.domain.DomainName.{DomainName};
 
 use crate::answering::{Refusal, StreamAnswer};
 use crate::service::{Handler, Service};
 use crate::settings::SettingFault;
+use hickory_server::access::network_text_laws;
 use hickory_server::server::serve::Incoming;
 use hickory_server::zone_handler::{ReplySigner, ZoneHandler};
+use served_zones::journals::Opened;
 use signed_server::LeftToServer;
 use std::alloc::Global;
 use std::net::SocketAddr;
@@ -34,6 +43,22 @@ pub fn worked_zones(
     service.allow_update(alloc, name, rule)?;
     service.serve_zones(alloc)?;
     Ok(service)
+}
+
+/// A server that takes a list of blocked names, and then a zone whose file is not taken.
+pub fn worked_failed_zone(
+    alloc: Global,
+    service: &mut Service,
+    list: &[u8],
+    name: &[u8],
+) -> Result<(), SettingFault>
+    ensures { OnOk result ((apex : DomainName) × ((events : List Event) →
+        Run ⟦<Handler as ZoneHandler>⟧ ⟦<LeftToServer as ReplySigner>⟧.signature_for events service.old →
+        Run ⟦<Handler as ZoneHandler>⟧ ⟦<LeftToServer as ReplySigner>⟧.signature_for
+        (zone_failed name.now apex ∷ list_set list.now ∷ events) service.new)) }
+{
+    service.set_blocklist(alloc, list)?;
+    service.fail_zone(alloc, name)
 }
 
 /// A server that takes the name of a key, whose requests may have transfers from anywhere.
@@ -106,4 +131,57 @@ pub fn worked_journal(
     let ended = service.end_batch(alloc);
     service.stop_updates(alloc, 0);
     Ok(ended)
+}
+
+/// A server that does not take the journal of a zone.
+pub fn worked_failed_journal(
+    alloc: Global,
+    service: &mut Service,
+    name: &[u8],
+    journal: &[u8],
+    spare: &[u8],
+) -> Result<Opened, SettingFault>
+    ensures { OnErr result ((events : List Event) →
+        Run ⟦<Handler as ZoneHandler>⟧ ⟦<LeftToServer as ReplySigner>⟧.signature_for events service.old →
+        Run ⟦<Handler as ZoneHandler>⟧ ⟦<LeftToServer as ReplySigner>⟧.signature_for
+        (journal_failed name.now journal.now spare.now ∷ events) service.new) }
+{
+    service.open_journal(alloc, name, journal, spare)
+}
+
+/// The network of a text is its first 24 bits, and no other (RFC 4632 section 3.1).
+pub fn worked_network()
+    ensures network { IsNetworkText (codes "192.0.2.0/24")
+        (record { family = Ipv4; prefix_length = 24; prefix = 12582914 }) }
+    ensures only { (network : Network) → IsNetworkText (codes "192.0.2.0/24") network →
+        network ≡ record { family = Ipv4; prefix_length = 24; prefix = 12582914 } }
+{
+    network_text_laws();
+}
+
+/// A key is named with a dot at its end or without one.
+pub fn worked_key()
+    ensures without { IsKeyName (codes "k") (record { labels = codes "k" ∷ []; is_fqdn = true }) }
+    ensures with_dot { IsKeyName (codes "k.") (record { labels = codes "k" ∷ []; is_fqdn = true }) }
+{}
+
+/// A rule of a key, for the name that the key has and for all types.
+pub fn worked_rule()
+    ensures { IsRuleText (codes "k self")
+        (record { key = record { labels = codes "k" ∷ []; is_fqdn = true }; scope = OwnName; types = [] }) }
+{}
+
+/// 512 bytes are enough for a reply over UDP.
+pub fn worked_size(service: &mut Service) -> Result<(), SettingFault>
+    ensures taken { IsOk result }
+    ensures size { service.new ≡ with_rules service.old (record (rules_of service.old) { max_udp = 512 }) }
+{
+    service.set_max_udp(512)
+}
+
+/// A rate of 0 is no limit.
+pub fn worked_rate(alloc: Global, service: &mut Service) -> Result<(), SettingFault>
+    ensures { OnOk result (service.new.limits ≡ None) }
+{
+    service.set_rate_limit(alloc, 0, 2)
 }

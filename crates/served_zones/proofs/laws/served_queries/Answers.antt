@@ -7,6 +7,7 @@ use Rattle.served_zones.proofs.laws.served_queries.Goals as goal
 pub returns-clause-answered : goal.returns-clause-answered
 returns-clause-answered g c =
     reply _ (λ zone r options flow context gave. gave) (λ zone. refl) (λ zone. refl) (λ zone options flow looked. looked) c.owned_zones_reply.ensures.lookups
+    (λ list name t info options last answer context gave. gave)
     _ c.one_message.ensures.same c.one_message.ensures.no_fault
 
 pub returns-clause-updated : goal.returns-clause-updated
