@@ -35,6 +35,7 @@ impl FileFault {
 }
 
 /// Why the system does not give a file.
+// No clause: why the system gives no file is only reported.
 fn refusal_of(e: &io::Error) -> FileRefusal {
     match e.kind() {
         io::ErrorKind::NotFound | io::ErrorKind::NotADirectory => FileRefusal::Absent,
@@ -46,6 +47,7 @@ fn refusal_of(e: &io::Error) -> FileRefusal {
 }
 
 /// The bytes of a file.
+// No clause: no contract says which bytes a file has.
 pub fn read_bytes<R: Files + Alloc<A = Global>>(rt: &R, file: &str) -> Result<Vec<u8>, FileFault> {
     match fs::read(rt, file) {
         Ok(bytes) => Ok(bytes),
@@ -89,6 +91,7 @@ pub fn records_of<R: Files + Alloc<A = Global>>(
 }
 
 /// Where the records of these bytes of a zone file stand, and those of the files that it includes.
+// No clause: places are only printed.
 pub fn places_in<R: Files + Alloc<A = Global>>(rt: &R, bytes: &[u8]) -> Result<Places, AllocError> {
     places_of(rt.alloc(), &SystemFiles { rt }, bytes)
 }

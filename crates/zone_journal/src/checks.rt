@@ -8,6 +8,7 @@ use std::alloc::Global;
 use std::io;
 
 /// The zone of the first entry that is an update.
+// No clause: what an entry says `journal_entries` reads, for a report.
 fn first_zone(alloc: Global, entries: &[Vec<u8>]) -> Result<Option<LowerName>, Fault> {
     let mut part = Part::First;
     for bytes in entries {
@@ -33,6 +34,7 @@ fn print_cut<R: Print>(rt: &R, file: &str) -> Result<(), Fault> {
 }
 
 /// Prints a line for each entry that may not stand there, and gives their number.
+// No clause: it prints what is wrong.
 pub fn check_entries<R: Print + Alloc<A = Global>>(
     rt: &R,
     file: &str,

@@ -125,6 +125,7 @@ impl From<RecordsError> for Fault {
 }
 
 /// The fault of a file that the system does not give.
+// No clause: why the system gives no file is only reported.
 pub fn fault_of_file(e: &io::Error) -> Fault {
     match e.kind() {
         io::ErrorKind::NotFound | io::ErrorKind::NotADirectory => Fault::Absent,

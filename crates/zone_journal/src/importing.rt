@@ -15,6 +15,7 @@ use std::io;
 use zone_import::{ImportError, Imported, import, is_same_zone, with_serial};
 
 /// Why a zone is not turned into one of this serial, where it has another one.
+// No clause: why it fails is only reported.
 fn fault_of_import(error: &ImportError, zone: u32, other: u32) -> Fault {
     match error {
         ImportError::Serial => Fault::NotAbove { zone, other },
@@ -71,6 +72,7 @@ fn turn<D: Disk>(
 
 /// Turns the zone of the journal in a file and the one beside it into the other one, and gives its serial of before and
 /// what was done.
+// No clause: no contract says which bytes a file has. `turn` says what becomes of the zone.
 pub fn import_zone(
     rt: &HostRuntime,
     file: &str,

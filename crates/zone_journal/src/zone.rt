@@ -16,6 +16,7 @@ use std::rt::Files;
 pub type Zone = UpdatableZoneHandler<NoKeys>;
 
 /// A zone without records, whose place those of a snapshot take.
+// No clause: its records are those of the snapshot that takes their place.
 pub fn empty_zone(alloc: Global, origin: &Name) -> Result<Zone, AllocError> {
     let origin = LowerName::new(alloc, origin)?;
     let zone = InMemoryZoneHandler::new(
@@ -28,6 +29,7 @@ pub fn empty_zone(alloc: Global, origin: &Name) -> Result<Zone, AllocError> {
 }
 
 /// The zone of a zone file.
+// No clause: no contract says which bytes a file has.
 pub fn zone_of_file<R: Files + Eprint + Alloc<A = Global>>(
     rt: &R,
     origin: &Name,

@@ -12,6 +12,7 @@ use std::rt::Files;
 use std::{fs, io, str};
 
 /// Why the system does not give a file that is included.
+// No clause: why the system gives no file is only reported.
 fn refusal_of(e: &io::Error) -> FileRefusal {
     match e.kind() {
         io::ErrorKind::NotFound | io::ErrorKind::NotADirectory => FileRefusal::Absent,
@@ -47,6 +48,7 @@ impl<R: Files + Alloc<A = Global>> FileOpener for FilesByPath<'_, R> {
 }
 
 /// The fault of a zone file. One of a file that it includes is told on the standard error, by the name of that file.
+// No clause: why a zone file is refused is only reported.
 fn fault_of_zone<R: Eprint>(rt: &R, refused: &IncludedError) -> Fault {
     match (refused.error, str::from_utf8(refused.file.as_slice())) {
         (ZoneFileError::Memory, _) => Fault::Memory,
@@ -76,6 +78,7 @@ fn records_of<R: Files + Eprint + Alloc<A = Global>>(
 
 /// The zone of this apex that a zone file has with the files that it includes. A fault in one of these is told on the
 /// standard error.
+// No clause: no contract says which bytes a file has. `zone_with` says which zone they are.
 pub fn read_zone_of<R: Files + Eprint + Alloc<A = Global>>(
     rt: &R,
     origin: &Name,
