@@ -1,5 +1,8 @@
 //! The records of zone files, and why a file is not taken.
 
+ghost use Rattle.std.specs.Prelude.{◌<◌, ◌≤◌, IfOk};
+ghost use Rattle.check_zone.specs.Checking.{AreRecordsOf};
+
 use crate::places::{Places, places_of};
 use std::alloc::{AllocError, Global};
 use std::rt::Files;
@@ -26,7 +29,9 @@ pub enum FileFault {
 
 impl FileFault {
     /// The status that tells it.
-    pub fn status(self) -> u8 {
+    pub fn status(self) -> u8
+        ensures { (1 < result) × (result ≤ 5) }
+    {
         match self {
             FileFault::Memory => 3,
             _ => 5,
@@ -86,7 +91,9 @@ pub fn records_of<R: Files + Alloc<A = Global>>(
     rt: &R,
     origin: &Name,
     bytes: &[u8],
-) -> Result<Items<Record>, IncludedError> {
+) -> Result<Items<Record>, IncludedError>
+    ensures { IfOk result (AreRecordsOf origin.now bytes.now) }
+{
     read_zone_with_files(rt.alloc(), bytes, origin, &SystemFiles { rt })
 }
 

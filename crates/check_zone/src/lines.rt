@@ -1,5 +1,7 @@
 //! What is found, and the records of a zone, as lines.
 
+ghost use Rattle.std.specs.Prelude.{◌≡◌, ◌↔◌, ◌⊎◌, []};
+
 use crate::fault::Fault;
 use crate::places::{Place, Places};
 use std::alloc::{AllocError, Global};
@@ -146,7 +148,10 @@ fn print_lines<R: Print>(rt: &R, lines: &String) -> Result<(), Fault> {
 }
 
 /// The status of what is found: 0 where that is nothing, 1 where all are warnings, 5 where one is a fault.
-pub fn status_of(findings: &[Finding]) -> u8 {
+pub fn status_of(findings: &[Finding]) -> u8
+    ensures none { (result ≡ 0) ↔ (findings.now ≡ []) }
+    ensures some { (result ≡ 0) ⊎ ((result ≡ 1) ⊎ (result ≡ 5)) }
+{
     let is_fault = |finding: &Finding| finding.kind.severity() == Severity::Fault;
     if findings.is_empty() {
         0

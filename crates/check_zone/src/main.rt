@@ -8,6 +8,11 @@
 //! error.
 #![tactic(auto)]
 
+ghost use Rattle.std.specs.Prelude.{◌≡◌, ◌%◌, ◌^◌, Err, IfOk};
+ghost use Rattle.wire_names.specs.rr.domain.DomainName.{DomainName};
+ghost use Rattle.check_zone.specs.Checking.{IsApexText};
+ghost use Rattle.check_zone.specs.declared.fault.Fault.TheVariants as fault;
+
 mod fault;
 mod files;
 mod lines;
@@ -60,7 +65,10 @@ fn command<'a>(alloc: Global) -> Result<Command<'a>, AllocError> {
 }
 
 /// The name of the apex, with or without a dot at its end; the root is a dot alone.
-fn apex_of(alloc: Global, text: &str) -> Result<Name, Fault> {
+fn apex_of(alloc: Global, text: &str) -> Result<Name, Fault>
+    ensures spelled { IfOk result (IsApexText text.now) }
+    ensures refused { result ≡ Err fault.Origin → (apex : DomainName) → ¬ (IsApexText text.now apex) }
+{
     if text == "." {
         return Ok(Name::root());
     }
@@ -215,7 +223,9 @@ fn print_findings<R: Files + Print + Eprint + Alloc<A = Global>>(
 }
 
 /// A time in seconds since 1970 as signatures have it, modulo 2^32.
-fn time_of(seconds: u64) -> u32 {
+fn time_of(seconds: u64) -> u32
+    ensures { result ≡ seconds % 2 ^ 32 }
+{
     (seconds % 0x1_0000_0000) as u32
 }
 
