@@ -13,8 +13,11 @@
 //! error.
 #![tactic(auto)]
 
-ghost use Rattle.std.specs.Prelude.{IfOk};
+ghost use Rattle.std.specs.Prelude.{◌≡◌, Err, IfOk};
 ghost use Rattle.journal.specs.JournalFile.{IsJournal};
+ghost use Rattle.wire_names.specs.rr.domain.DomainName.{DomainName};
+ghost use Rattle.zone_journal.specs.Zones.{IsApexText};
+ghost use Rattle.zone_journal.specs.declared.fault.Fault.TheVariants as fault;
 
 mod checks;
 mod compaction;
@@ -149,7 +152,10 @@ fn command<'a>(alloc: Global) -> Result<Command<'a>, AllocError> {
 }
 
 /// The name of the apex, with or without a dot at its end; the root is a dot alone.
-fn apex_of(alloc: Global, text: &str) -> Result<Name, Fault> {
+fn apex_of(alloc: Global, text: &str) -> Result<Name, Fault>
+    ensures spelled { IfOk result (IsApexText text.now) }
+    ensures refused { result ≡ Err fault.Origin → (apex : DomainName) → ¬ (IsApexText text.now apex) }
+{
     if text == "." {
         return Ok(Name::root());
     }

@@ -1,5 +1,9 @@
 //! The zone at the end of a journal.
 
+ghost use Rattle.std.specs.Prelude.{IfOk};
+ghost use Rattle.journal.specs.Read.{contents};
+ghost use Rattle.zone_journal.specs.Zones.{IsZoneAfter};
+
 use crate::fault::Fault;
 use crate::zone_file::read_zone_of;
 use durable_updates::{recall, recall_to};
@@ -45,7 +49,9 @@ pub fn with_entries(
     zone: Zone,
     entries: &[Vec<u8>],
     serial: Option<u32>,
-) -> Result<Zone, Fault> {
+) -> Result<Zone, Fault>
+    ensures { IfOk result (λ made. IsZoneAfter (contents entries.now) zone.zone serial made.zone) }
+{
     let mut zone = zone;
     let Some(serial) = serial else {
         recall(&mut zone, alloc, entries)?;

@@ -1,12 +1,15 @@
 //! Zone files, with the files that they include (RFC 1035 section 5.1).
 
+ghost use Rattle.std.specs.Prelude.{IfOk};
+ghost use Rattle.zone_journal.specs.Zones.{IsZoneOfFiles};
+
 use crate::fault::{Fault, fault_of_file};
 use hickory_base::zone_store::{AxfrPolicy, InMemoryZoneHandler, ZoneType};
 use hickory_server::store::file::{ZoneError, zone_of_records};
 use hickory_server::zone_text::{
     FileOpener, FileRefusal, IncludedError, ZoneFileError, read_zone_with_files,
 };
-use hickory_wire::{Items, Name, Record};
+use hickory_wire::Name;
 use std::alloc::Global;
 use std::rt::Files;
 use std::{fs, io, str};
@@ -60,19 +63,24 @@ fn fault_of_zone<R: Eprint>(rt: &R, refused: &IncludedError) -> Fault {
     }
 }
 
-/// The records of a zone file.
-fn records_of<R: Files + Eprint + Alloc<A = Global>>(
+/// The zone of this apex that the bytes of a zone file have with the files that it includes. A fault in one of these is
+/// told on the standard error.
+fn zone_with<R: Eprint + Alloc<A = Global>, O: FileOpener>(
     rt: &R,
+    files: &O,
     origin: &Name,
-    file: &str,
-) -> Result<Items<Record>, Fault> {
-    let bytes = match fs::read(rt, file) {
-        Ok(bytes) => bytes,
-        Err(e) => return Err(fault_of_file(&e)),
+    bytes: &[u8],
+) -> Result<InMemoryZoneHandler, Fault>
+    ensures { IfOk result (IsZoneOfFiles (O.opens files.now) origin.now bytes.now) }
+{
+    let (alloc, kind, policy) = (rt.alloc(), ZoneType::Primary, AxfrPolicy::Deny);
+    let records = match read_zone_with_files(alloc, bytes, origin, files) {
+        Ok(records) => records,
+        Err(refused) => return Err(fault_of_zone(rt, &refused)),
     };
-    match read_zone_with_files(rt.alloc(), &bytes, origin, &FilesByPath { rt }) {
-        Ok(records) => Ok(records),
-        Err(refused) => Err(fault_of_zone(rt, &refused)),
+    match zone_of_records(alloc, origin, records.into_vec(), kind, policy) {
+        Ok(zone) => Ok(zone),
+        Err(e) => Err(Fault::from(e)),
     }
 }
 
@@ -84,15 +92,8 @@ pub fn read_zone_of<R: Files + Eprint + Alloc<A = Global>>(
     origin: &Name,
     file: &str,
 ) -> Result<InMemoryZoneHandler, Fault> {
-    let records = records_of(rt, origin, file)?.into_vec();
-    match zone_of_records(
-        rt.alloc(),
-        origin,
-        records,
-        ZoneType::Primary,
-        AxfrPolicy::Deny,
-    ) {
-        Ok(zone) => Ok(zone),
-        Err(e) => Err(Fault::from(e)),
+    match fs::read(rt, file) {
+        Ok(bytes) => zone_with(rt, &FilesByPath { rt }, origin, bytes.as_slice()),
+        Err(e) => Err(fault_of_file(&e)),
     }
 }
