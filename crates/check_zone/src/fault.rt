@@ -1,5 +1,7 @@
 //! Why the program ends before anything is found.
 
+ghost use Rattle.std.specs.Prelude.{◌<◌, ◌≤◌};
+
 use std::alloc::{AllocError, AllocFailed};
 use text_print::PrintError;
 use thiserror::Error;
@@ -29,7 +31,9 @@ pub enum Fault {
 
 impl Fault {
     /// Its exit status.
-    pub fn status(self) -> u8 {
+    pub fn status(self) -> u8
+        ensures { (1 < result) × (result ≤ 5) }
+    {
         match self {
             Fault::Arguments | Fault::Origin | Fault::Time => 2,
             Fault::Memory => 3,

@@ -1,5 +1,8 @@
 //! The records of zone files, and why a file is not taken.
 
+ghost use Rattle.std.specs.Prelude.{◌<◌, ◌≤◌, IfOk};
+ghost use Rattle.check_zone.specs.Checking.{AreRecordsOf};
+
 use crate::places::{Places, places_of};
 use std::alloc::{AllocError, Global};
 use std::rt::Files;
@@ -26,7 +29,9 @@ pub enum FileFault {
 
 impl FileFault {
     /// The status that tells it.
-    pub fn status(self) -> u8 {
+    pub fn status(self) -> u8
+        ensures { (1 < result) × (result ≤ 5) }
+    {
         match self {
             FileFault::Memory => 3,
             _ => 5,
@@ -35,6 +40,7 @@ impl FileFault {
 }
 
 /// Why the system does not give a file.
+// No clause: why the system gives no file is only reported.
 fn refusal_of(e: &io::Error) -> FileRefusal {
     match e.kind() {
         io::ErrorKind::NotFound | io::ErrorKind::NotADirectory => FileRefusal::Absent,
@@ -46,6 +52,7 @@ fn refusal_of(e: &io::Error) -> FileRefusal {
 }
 
 /// The bytes of a file.
+// No clause: no contract says which bytes a file has.
 pub fn read_bytes<R: Files + Alloc<A = Global>>(rt: &R, file: &str) -> Result<Vec<u8>, FileFault> {
     match fs::read(rt, file) {
         Ok(bytes) => Ok(bytes),
@@ -84,11 +91,14 @@ pub fn records_of<R: Files + Alloc<A = Global>>(
     rt: &R,
     origin: &Name,
     bytes: &[u8],
-) -> Result<Items<Record>, IncludedError> {
+) -> Result<Items<Record>, IncludedError>
+    ensures { IfOk result (AreRecordsOf origin.now bytes.now) }
+{
     read_zone_with_files(rt.alloc(), bytes, origin, &SystemFiles { rt })
 }
 
 /// Where the records of these bytes of a zone file stand, and those of the files that it includes.
+// No clause: places are only printed.
 pub fn places_in<R: Files + Alloc<A = Global>>(rt: &R, bytes: &[u8]) -> Result<Places, AllocError> {
     places_of(rt.alloc(), &SystemFiles { rt }, bytes)
 }

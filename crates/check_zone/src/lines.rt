@@ -1,5 +1,7 @@
 //! What is found, and the records of a zone, as lines.
 
+ghost use Rattle.std.specs.Prelude.{◌≡◌, ◌↔◌, ◌⊎◌, []};
+
 use crate::fault::Fault;
 use crate::places::{Place, Places};
 use std::alloc::{AllocError, Global};
@@ -10,6 +12,7 @@ use wire_names::rr::domain::name::Name;
 use zone_check::{Finding, Severity};
 
 /// The word of how grave a finding is.
+// No clause: the line is only printed.
 fn word_of(severity: Severity) -> &'static str {
     match severity {
         Severity::Warning => "warning",
@@ -32,6 +35,7 @@ pub struct Told<'a> {
 
 impl Told<'_> {
     /// The name of the file that a place is in. One that is no text is told by that of the first.
+    // No clause: the line is only printed.
     fn name_at(&self, place: &Place) -> &str {
         let Some(number) = place.file.checked_sub(1) else {
             return self.file;
@@ -43,6 +47,7 @@ impl Told<'_> {
     }
 
     /// Where a record stands, if that is known of all.
+    // No clause: the line is only printed.
     fn place_of(&self, number: usize) -> Option<&Place> {
         if self.places.records.len() != self.records.len() {
             return None;
@@ -53,6 +58,7 @@ impl Told<'_> {
 
 /// The line of a finding of a record, the one of this number, from 0 on, which is told by its place, its name and its
 /// type.
+// No clause: the line is only printed.
 fn line_of_record(
     alloc: Global,
     told: &Told<'_>,
@@ -80,6 +86,7 @@ fn line_of_record(
 }
 
 /// The line of a finding.
+// No clause: the line is only printed.
 fn line_of(alloc: Global, told: &Told<'_>, finding: Finding) -> Result<String, AllocError> {
     if let Some(number) = finding.place
         && let Some(record) = told.records.get(number)
@@ -141,7 +148,10 @@ fn print_lines<R: Print>(rt: &R, lines: &String) -> Result<(), Fault> {
 }
 
 /// The status of what is found: 0 where that is nothing, 1 where all are warnings, 5 where one is a fault.
-pub fn status_of(findings: &[Finding]) -> u8 {
+pub fn status_of(findings: &[Finding]) -> u8
+    ensures none { (result ≡ 0) ↔ (findings.now ≡ []) }
+    ensures some { (result ≡ 0) ⊎ ((result ≡ 1) ⊎ (result ≡ 5)) }
+{
     let is_fault = |finding: &Finding| finding.kind.severity() == Severity::Fault;
     if findings.is_empty() {
         0

@@ -8,6 +8,11 @@
 //! error.
 #![tactic(auto)]
 
+ghost use Rattle.std.specs.Prelude.{◌≡◌, ◌%◌, ◌^◌, Err, IfOk};
+ghost use Rattle.wire_names.specs.rr.domain.DomainName.{DomainName};
+ghost use Rattle.check_zone.specs.Checking.{IsApexText};
+ghost use Rattle.check_zone.specs.declared.fault.Fault.TheVariants as fault;
+
 mod fault;
 mod files;
 mod lines;
@@ -32,6 +37,7 @@ use zone_text::{IncludedError, ZoneFileError, ZoneFileFault, zone_file_faults};
 const VERSION: &str = "0.1.0";
 
 /// The arguments that the program takes.
+// No clause: which words the program takes is `clap`'s to read.
 fn command<'a>(alloc: Global) -> Result<Command<'a>, AllocError> {
     let origin = Arg::new(alloc, "ORIGIN").required(true).help(
         "the name of the zone's apex, with or without a dot at its end",
@@ -59,7 +65,10 @@ fn command<'a>(alloc: Global) -> Result<Command<'a>, AllocError> {
 }
 
 /// The name of the apex, with or without a dot at its end; the root is a dot alone.
-fn apex_of(alloc: Global, text: &str) -> Result<Name, Fault> {
+fn apex_of(alloc: Global, text: &str) -> Result<Name, Fault>
+    ensures spelled { IfOk result (IsApexText text.now) }
+    ensures refused { result ≡ Err fault.Origin → (apex : DomainName) → ¬ (IsApexText text.now apex) }
+{
     if text == "." {
         return Ok(Name::root());
     }
@@ -97,6 +106,7 @@ fn tell_of_included<R: Eprint>(rt: &R, file: &str, fault: &IncludedError) -> u8 
 }
 
 /// The serial of a zone file, or the status behind what is told of it on the standard error.
+// No clause: no contract says which bytes a file has.
 fn serial_of<R: Files + Eprint + Alloc<A = Global>>(
     rt: &R,
     origin: &Name,
@@ -132,6 +142,7 @@ fn tell_of_argument<R: Eprint>(rt: &R, text: &str, fault: Fault) -> u8 {
 }
 
 /// Whether a fault is that a file is included.
+// No clause: it decides only which faults are reported.
 fn is_inclusion(error: &ZoneFileError) -> bool {
     matches!(
         error,
@@ -212,11 +223,14 @@ fn print_findings<R: Files + Print + Eprint + Alloc<A = Global>>(
 }
 
 /// A time in seconds since 1970 as signatures have it, modulo 2^32.
-fn time_of(seconds: u64) -> u32 {
+fn time_of(seconds: u64) -> u32
+    ensures { result ≡ seconds % 2 ^ 32 }
+{
     (seconds % 0x1_0000_0000) as u32
 }
 
 /// The time of the clock, if it can be read.
+// No clause: no contract says what a clock reads.
 fn now<R: Clock>(rt: &R) -> Option<u32> {
     let Ok(time) = SystemTime::now(rt) else {
         return None;
@@ -228,6 +242,7 @@ fn now<R: Clock>(rt: &R) -> Option<u32> {
 }
 
 /// The time at which signatures are to be valid, or the status after the fault of its argument is reported.
+// No clause: no contract says which words are given.
 fn given_time<R: Clock + Eprint>(rt: &R, matches: &ArgMatches<'_>) -> Result<Option<u32>, u8> {
     let Some(text) = matches.get_str("at") else {
         return Ok(now(rt));
@@ -295,6 +310,7 @@ fn print_of_arguments<R: Print + Eprint + Alloc<A = Global>>(rt: &R, error: &Err
 }
 
 /// The words behind which the program stands, its own name first.
+// No clause: no contract says which arguments the system gives.
 fn given_words<R: Env + Alloc<A = Global>>(rt: &R) -> Result<Vec<String>, Fault> {
     match env::args(rt) {
         Ok(words) => Ok(words.collect(rt.alloc())?),

@@ -2,6 +2,8 @@
 //!
 //! A file that was read is walked through once more, entry by entry: that each has so many records as are counted here
 //! is known since it was read.
+//!
+//! No clauses: places are only printed.
 
 ghost use Rattle.std.specs.Prelude.{◌≤◌, ◌<◌, IfOk, IfSome, length};
 

@@ -1,17 +1,18 @@
 -- What the program is started with: options, each with what stands behind it if anything does, and then the mode.
-use Rattle.std.specs.Prelude.{◌≡◌, ◌⊎◌, ◌==◌, ◌++◌, ◌∷◌, ◌<◌, ◌≤◌, ◌^◌, [], ℕ, Bool, List, Contains, codes, if◌then◌else◌, length, map, nat_eq, option_map}
+use Rattle.std.specs.Prelude.{◌≡◌, ◌≢◌, ◌⊎◌, ◌==◌, ◌++◌, ◌∷◌, ◌<◌, ◌≤◌, ◌^◌, [], ℕ, Bool, List, None, Contains, codes, if◌then◌else◌, length, map, nat_eq, option_map}
 use Rattle.std.specs.Cmp.Lexicographic.{pointwise}
 use Rattle.std.specs.List.{AllByRecursion, AllZip, after_first, before_first, filter, flat_map, position_or_len}
 use Rattle.std.specs.Option.{option_to_list}
 use Rattle.std.specs.Str.Parse.{IsNumeral, digits_value, without_leading_plus}
 use Rattle.server_limits.specs.NetworkTexts.{IsNetworkText}
 use Rattle.serve_options.specs.declared.arguments.ArgumentFault.{ArgumentFault}
-use Rattle.serve_options.specs.declared.arguments.ArgumentFault.TheVariants.{Value}
+use Rattle.serve_options.specs.declared.arguments.ArgumentFault.TheVariants.{Joined, JournalMode, NoKeys, NoMode, NoValue, NotOnly, Unknown, Value}
 use Rattle.serve_options.specs.declared.arguments.Mode.{Mode}
 use Rattle.serve_options.specs.declared.arguments.Mode.TheVariants.{Lines, Tcp, Udp}
 use Rattle.serve_options.specs.declared.arguments.Settings.{Settings}
 use Rattle.serve_options.specs.declared.arguments.UpdateArgument.{UpdateArgument}
 use Rattle.serve_options.specs.declared.arguments.Wanted.{Wanted}
+use Rattle.serve_options.specs.declared.arguments.Wanted.TheVariants.{File, Key, Network, Number, Rule, Text, Zone}
 use Rattle.serve_options.specs.declared.arguments.ZoneArgument.{ZoneArgument}
 
 -- Options in their order, each with what stands behind it.
@@ -55,6 +56,34 @@ IsBound text bound = IsNumeral 10 (without_leading_plus text) × (digits_value 1
 abbrev pub IsValueFault : List ℕ → List ℕ → Wanted → ArgumentFault → Type 0
 IsValueFault name text what (Value option word wanted) = (option.now ≡ name) × (word.now ≡ text) × (wanted ≡ what)
 IsValueFault name text what other = ⊥
+
+-- the options whose value is this
+abbrev pub names_with : Wanted → List (List ℕ)
+names_with Zone = codes "--zone" ∷ codes "--journal" ∷ []
+names_with File = codes "--blocklist" ∷ codes "--keys" ∷ []
+names_with Network = codes "--allow" ∷ codes "--deny" ∷ codes "--allow-transfer" ∷ codes "--deny-transfer" ∷ []
+names_with Text = codes "--nsid" ∷ []
+names_with Number = codes "--max-udp" ∷ []
+names_with Key = codes "--allow-transfer-key" ∷ []
+names_with Rule = codes "--allow-update" ∷ []
+
+-- the options that have a value
+abbrev pub names_with_value : List (List ℕ)
+names_with_value = flat_map names_with (Zone ∷ File ∷ Network ∷ Text ∷ Number ∷ Key ∷ Rule ∷ [])
+
+-- What is wrong with a word that is neither an option nor a mode: it is an option, `=`, 61, and a value, or anything else.
+abbrev pub IsUnknown : List ℕ → ArgumentFault → Type 0
+IsUnknown word (Joined option value) = (option.now ≡ before_first (λ b. b == 61) word) × (value.now ≡ after_first (λ b. b == 61) word)
+    × Contains names_with_value option.now
+IsUnknown word (Unknown it) = it.now ≡ word
+IsUnknown word other = ⊥
+
+-- What is wrong with a word that is not an option with a value after it, nor a mode at the end.
+abbrev pub IsWordFault : List ℕ → ArgumentFault → Type 0
+IsWordFault word (NotOnly it) = (it.now ≡ word) × Contains (codes "--version" ∷ codes "--help" ∷ codes "-h" ∷ []) word
+IsWordFault word NoMode = word ≡ codes "--no-groups"
+IsWordFault word (NoValue option wanted) = (option.now ≡ word) × Contains (names_with wanted) word
+IsWordFault word fault = IsUnknown word fault × ¬ (Contains names_with_value word)
 
 -- the word for a mode
 abbrev pub mode_word : Mode → List ℕ
@@ -112,6 +141,21 @@ Takes option text old new = (options : Options) → OptionsSay options old → O
 abbrev pub IsOfOneProcess : Settings → Type 0
 IsOfOneProcess settings = (settings.mode ≡ Lines) ⊎ (settings.journals.items ≡ [])
 
+-- There is a file of keys, or no option names a key.
+abbrev pub HasKeysForNames : Settings → Type 0
+HasKeysForNames settings = (settings.keys ≢ None) ⊎ ((settings.updates.items ≡ []) × (settings.transfer_keys.items ≡ []))
+
+-- The option of the fault names a key, and there is no file of keys.
+abbrev pub IsKeysFault : Settings → ArgumentFault → Type 0
+IsKeysFault settings (NoKeys option) = (settings.keys ≡ None) × (((option.now ≡ codes "--allow-update") × (settings.updates.items ≢ []))
+    ⊎ ((option.now ≡ codes "--allow-transfer-key") × (settings.transfer_keys.items ≢ [])))
+IsKeysFault settings other = ⊥
+
+-- What is wrong with options together: a journal is there in another mode than `lines`, or a file of keys is missing.
+abbrev pub IsOptionsFault : Settings → ArgumentFault → Type 0
+IsOptionsFault settings JournalMode = (settings.mode ≢ Lines) × (settings.journals.items ≢ [])
+IsOptionsFault settings fault = IsKeysFault settings fault
+
 -- What the arguments say: they are options, each with what stands behind it if anything does, and the word for the
 -- mode.
 pub record ArgumentsSay (arguments : List (List ℕ)) (settings : Settings) : Type 0 where
@@ -119,3 +163,4 @@ pub record ArgumentsSay (arguments : List (List ℕ)) (settings : Settings) : Ty
   pub words : arguments ≡ words_of options ++ mode_word settings.mode ∷ []
   pub say : OptionsSay options settings
   pub of_one_process : IsOfOneProcess settings
+  pub keys : HasKeysForNames settings

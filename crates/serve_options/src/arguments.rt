@@ -1,9 +1,9 @@
 //! What the program is started with.
 
-ghost use Rattle.std.specs.Prelude.{◌≡◌, [], codes, IfErr, IfOk, IfSome, IsNone, OnOk, map, string_bytes};
+ghost use Rattle.std.specs.Prelude.{◌≡◌, ◌↔◌, [], Contains, codes, IfErr, IfOk, IfSome, IsNone, IsSome, MatchOption, OnOk, map, string_bytes};
 ghost use Rattle.server_limits.specs.NetworkTexts.{IsNetworkText};
 ghost use Rattle.serve_options.specs.declared.arguments.Wanted.TheVariants as wanted;
-ghost use Rattle.serve_options.specs.Arguments.{ArgumentsSay, IsBound, IsOfOneProcess, IsUpdateText, IsValueFault, IsZoneText, OptionsSay, Takes, mode_word};
+ghost use Rattle.serve_options.specs.Arguments.{ArgumentsSay, HasKeysForNames, IsBound, IsKeysFault, IsOfOneProcess, IsOptionsFault, IsUnknown, IsUpdateText, IsValueFault, IsWordFault, IsZoneText, OptionsSay, Takes, mode_word, names_with, names_with_value};
 
 use server_limits::access_control::IpNet;
 use std::alloc::{AllocError, AllocFailed, Global};
@@ -199,7 +199,10 @@ fn mode_named(name: &str) -> Option<Mode>
 }
 
 /// What the value of the option of this name is.
-fn wanted_after(option: &str) -> Option<Wanted> {
+fn wanted_after(option: &str) -> Option<Wanted>
+    ensures known { IfSome result (λ what. Contains (names_with what) option.now) }
+    ensures variant { IsSome result ↔ Contains names_with_value option.now }
+{
     match option {
         "--zone" | "--journal" => Some(Wanted::Zone),
         "--blocklist" | "--keys" => Some(Wanted::File),
@@ -213,7 +216,9 @@ fn wanted_after(option: &str) -> Option<Wanted> {
 }
 
 /// What is wrong with a word that is neither an option nor a mode.
-fn unknown<'a>(word: &'a str) -> ArgumentFault<'a> {
+fn unknown<'a>(word: &'a str) -> ArgumentFault<'a>
+    ensures { IsUnknown word.now result }
+{
     match word.split_once('=') {
         Some((option, value)) if wanted_after(option).is_some() => {
             ArgumentFault::Joined { option, value }
@@ -223,7 +228,9 @@ fn unknown<'a>(word: &'a str) -> ArgumentFault<'a> {
 }
 
 /// What is wrong with a word that is not an option with its value after it.
-fn fault_of<'a>(word: &'a str) -> ArgumentFault<'a> {
+fn fault_of<'a>(word: &'a str) -> ArgumentFault<'a>
+    ensures { IsWordFault word.now result }
+{
     match word {
         "--version" | "--help" | "-h" => ArgumentFault::NotOnly { word },
         NO_GROUPS => ArgumentFault::NoMode,
@@ -409,7 +416,9 @@ impl<'a> Settings<'a> {
     }
 
     /// The option that names a key without a file of keys, if one does.
-    fn keys_fault(&self) -> Option<ArgumentFault<'a>> {
+    fn keys_fault(&self) -> Option<ArgumentFault<'a>>
+        ensures { MatchOption result (HasKeysForNames self.now) (IsKeysFault self.now) }
+    {
         let option = match (self.keys, self.updates.first(), self.transfer_keys.first()) {
             (None, Some(_), _) => "--allow-update",
             (None, None, Some(_)) => "--allow-transfer-key",
@@ -420,7 +429,9 @@ impl<'a> Settings<'a> {
 
     /// What is wrong with the options together, or with the journals for the mode, if anything is.
     fn journal_fault(&self) -> Option<ArgumentFault<'a>>
-        ensures { IsNone result → IsOfOneProcess self.now }
+        ensures process { IsNone result → IsOfOneProcess self.now }
+        ensures keys { IsNone result → HasKeysForNames self.now }
+        ensures fault { IfSome result (IsOptionsFault self.now) }
     {
         match (self.mode, self.journals.first()) {
             (Mode::Lines, _) | (_, None) => self.keys_fault(),

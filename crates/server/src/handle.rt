@@ -49,8 +49,8 @@ impl Handle {
     }
 }
 
-/// The address of a server, which stays where it is. It has no clause: what is at an address is known only of a
-/// [`Handle`].
+/// The address of a server, which stays where it is.
+// No clause: what is at an address is known only of a `Handle`.
 pub fn address(service: Box<Service>) -> *mut u8 {
     NonNull::from_mut(Box::leak(service)).cast::<u8>().as_ptr()
 }

@@ -1,4 +1,6 @@
 //! What goes of a zone and what comes, as the records of update sections (RFC 2136 section 2.5).
+//!
+//! No clauses: `import` writes requests only if they make the other zone of a copy.
 
 use crate::places::{Places, place_of, places_of};
 use crate::sameness::{Sets, are_same};

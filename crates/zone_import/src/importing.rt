@@ -46,6 +46,7 @@ struct Plan {
 }
 
 /// What turns a zone into another one that is not the same and whose serial is above its own.
+// No clause: `reached` sees whether the requests make the other zone.
 fn plan_of(
     alloc: Global,
     zone: &InMemoryZoneHandler,

@@ -1,4 +1,6 @@
 //! Where among the records of a set each stands, by its data.
+//!
+//! No clauses: `import` writes requests only if they make the other zone of a copy.
 
 use hickory_wire::{MX, Name, Octets, RData, Record};
 use std::alloc::{AllocError, Global};

@@ -1,4 +1,6 @@
 //! Updates in requests of at most 65,535 octets each.
+//!
+//! No clauses: `import` writes requests only if they make the other zone of a copy.
 
 ghost use Rattle.std.specs.Prelude.{◌<◌, IfOk, length};
 

@@ -1,4 +1,6 @@
 //! The SOA records that lead from one serial to another (RFC 1982).
+//!
+//! No clauses: `import` writes requests only if they make the other zone of a copy.
 
 ghost use Rattle.std.specs.Prelude.{◌≡◌, IfOk};
 ghost use Rattle.zone_import.specs.Imports.{numbered};

@@ -1,5 +1,8 @@
 //! Whether a journal is whole.
 
+ghost use Rattle.std.specs.Prelude.{◌≡◌, ◌↔◌, ◌⊎◌};
+ghost use Rattle.journal.specs.declared.endings.Ending.TheVariants.{Whole};
+
 use crate::fault::Fault;
 use hickory_wire::LowerName;
 use journal::{Ending, generation};
@@ -8,6 +11,7 @@ use std::alloc::Global;
 use std::io;
 
 /// The zone of the first entry that is an update.
+// No clause: what an entry says `journal_entries` reads, for a report.
 fn first_zone(alloc: Global, entries: &[Vec<u8>]) -> Result<Option<LowerName>, Fault> {
     let mut part = Part::First;
     for bytes in entries {
@@ -33,6 +37,7 @@ fn print_cut<R: Print>(rt: &R, file: &str) -> Result<(), Fault> {
 }
 
 /// Prints a line for each entry that may not stand there, and gives their number.
+// No clause: it prints what is wrong.
 pub fn check_entries<R: Print + Alloc<A = Global>>(
     rt: &R,
     file: &str,
@@ -83,7 +88,11 @@ pub fn print_ending<R: Print>(
 }
 
 /// The status of what was found: 0 where that is nothing, 1 where it is a warning, 5 where it is a fault.
-pub fn status_of(wrong: usize, ending: Ending) -> u8 {
+pub fn status_of(wrong: usize, ending: Ending) -> u8
+    ensures found { (result ≡ 0) ↔ ((wrong ≡ 0) × (ending ≡ Whole)) }
+    ensures warned { result ≡ 1 → wrong ≡ 0 }
+    ensures status { (result ≡ 0) ⊎ ((result ≡ 1) ⊎ (result ≡ 5)) }
+{
     match ending {
         Ending::Open(_) | Ending::Missing => 5,
         _ if wrong > 0 => 5,

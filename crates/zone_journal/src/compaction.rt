@@ -8,6 +8,7 @@ use sqlite_disk::Files;
 use sqlite_std_file::{OpenError as FilesError, Unknown, open};
 
 /// Why the two files of a journal are not opened.
+// No clause: why it fails is only reported.
 pub fn fault_of_files(error: &FilesError) -> Fault {
     match error {
         FilesError::OutOfMemory => Fault::Memory,
@@ -18,6 +19,7 @@ pub fn fault_of_files(error: &FilesError) -> Fault {
 }
 
 /// Why a journal is not opened.
+// No clause: why it fails is only reported.
 pub fn fault_of_opening(error: &OpenError) -> Fault {
     match error {
         OpenError::Journal(RecoverError::Memory) => Fault::Memory,
@@ -29,6 +31,7 @@ pub fn fault_of_opening(error: &OpenError) -> Fault {
 }
 
 /// Why a journal is not compacted.
+// No clause: why it fails is only reported.
 fn fault_of_compaction(error: &CompactError) -> Fault {
     match error {
         CompactError::OneFile | CompactError::Held => Fault::NotWritten,

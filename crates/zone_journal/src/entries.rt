@@ -17,6 +17,7 @@ fn print_records<R: Print>(rt: &R, records: &[Record]) -> io::Result<()> {
 }
 
 /// The moment so many seconds after 1970 began, where the calendar has it.
+// No clause: the time is only printed.
 fn moment(seconds: u64) -> Option<Timestamp> {
     let seconds = i64::try_from(seconds).ok()?;
     Timestamp::from_second(seconds).ok()

@@ -1,5 +1,7 @@
 //! Why the program ends before it has done what it was asked for.
 
+ghost use Rattle.std.specs.Prelude.{◌<◌, ◌≤◌};
+
 use durable_updates::RedoError;
 use hickory_server::store::file::{RecordsError, ZoneError};
 use std::alloc::{AllocError, AllocFailed};
@@ -84,7 +86,9 @@ pub enum Fault {
 
 impl Fault {
     /// Its exit status.
-    pub fn status(self) -> u8 {
+    pub fn status(self) -> u8
+        ensures { (1 < result) × (result ≤ 5) }
+    {
         match self {
             Fault::Arguments | Fault::Origin => 2,
             Fault::Memory => 3,
@@ -125,6 +129,7 @@ impl From<RecordsError> for Fault {
 }
 
 /// The fault of a file that the system does not give.
+// No clause: why the system gives no file is only reported.
 pub fn fault_of_file(e: &io::Error) -> Fault {
     match e.kind() {
         io::ErrorKind::NotFound | io::ErrorKind::NotADirectory => Fault::Absent,

@@ -1,5 +1,8 @@
 //! Turning the zone of a journal into the one of a zone file.
 
+ghost use Rattle.std.specs.Prelude.{◌≡◌, IfOk, IsNone, IsTrue, MatchOption, OnErr};
+ghost use Rattle.zone_journal.specs.Zones.{AreSameButSerial, IsNumbered, IsTurned};
+
 use crate::compaction::{fault_of_files, fault_of_opening};
 use crate::fault::Fault;
 use crate::zone::Zone;
@@ -15,6 +18,7 @@ use std::io;
 use zone_import::{ImportError, Imported, import, is_same_zone, with_serial};
 
 /// Why a zone is not turned into one of this serial, where it has another one.
+// No clause: why it fails is only reported.
 fn fault_of_import(error: &ImportError, zone: u32, other: u32) -> Fault {
     match error {
         ImportError::Serial => Fault::NotAbove { zone, other },
@@ -30,7 +34,9 @@ fn numbered(
     alloc: Global,
     zone: &InMemoryZoneHandler,
     serial: u32,
-) -> Result<InMemoryZoneHandler, ImportError> {
+) -> Result<InMemoryZoneHandler, ImportError>
+    ensures { IfOk result (IsNumbered serial zone.now) }
+{
     match with_serial(alloc, zone, serial) {
         Ok(zone) => Ok(zone),
         Err(RecordsError::Memory) => Err(ImportError::Memory),
@@ -43,7 +49,9 @@ fn is_same_but_serial(
     alloc: Global,
     zone: &InMemoryZoneHandler,
     other: &InMemoryZoneHandler,
-) -> Result<bool, ImportError> {
+) -> Result<bool, ImportError>
+    ensures { IfOk result (λ same. IsTrue same → AreSameButSerial zone.now other.now) }
+{
     let other = numbered(alloc, other, zone.serial())?;
     Ok(is_same_zone(alloc, zone, &other)?)
 }
@@ -56,7 +64,12 @@ fn turn<D: Disk>(
     journal: &mut Journal<D>,
     other: &InMemoryZoneHandler,
     takes_next: bool,
-) -> Result<Option<Imported>, ImportError> {
+) -> Result<Option<Imported>, ImportError>
+    ensures turned { IfOk result (λ done. MatchOption done (AreSameButSerial zone.old.zone other.now)
+        (λ _. IsTurned takes_next zone.old.zone other.now zone.new.zone)) }
+    ensures same { IfOk result (λ done. IsNone done → zone.new ≡ zone.old) }
+    ensures err { OnErr result (zone.new ≡ zone.old) }
+{
     let serial = zone.in_memory().serial();
     let is_above = !takes_next && is_greater(other.serial(), serial);
     if !is_above && is_same_but_serial(alloc, zone.in_memory(), other)? {
@@ -71,6 +84,7 @@ fn turn<D: Disk>(
 
 /// Turns the zone of the journal in a file and the one beside it into the other one, and gives its serial of before and
 /// what was done.
+// No clause: no contract says which bytes a file has. `turn` says what becomes of the zone.
 pub fn import_zone(
     rt: &HostRuntime,
     file: &str,

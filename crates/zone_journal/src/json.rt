@@ -1,4 +1,6 @@
 //! What the entries of a journal are, as objects of JSON (RFC 8259), one in a line.
+//!
+//! No clauses: the text is only printed.
 
 use crate::fault::Fault;
 use crate::serials::Serials;

@@ -13,8 +13,11 @@
 //! error.
 #![tactic(auto)]
 
-ghost use Rattle.std.specs.Prelude.{IfOk};
+ghost use Rattle.std.specs.Prelude.{◌≡◌, Err, IfOk};
 ghost use Rattle.journal.specs.JournalFile.{IsJournal};
+ghost use Rattle.wire_names.specs.rr.domain.DomainName.{DomainName};
+ghost use Rattle.zone_journal.specs.Zones.{IsApexText};
+ghost use Rattle.zone_journal.specs.declared.fault.Fault.TheVariants as fault;
 
 mod checks;
 mod compaction;
@@ -50,11 +53,13 @@ use std::{env, fs, io};
 const VERSION: &str = "0.1.0";
 
 /// The argument that names the journal.
+// No clause: which words the program takes is `clap`'s to read.
 fn journal_argument<'a>(alloc: Global) -> Arg<'a> {
     Arg::new(alloc, "FILE").required(true).help("the journal")
 }
 
 /// The argument that names the apex.
+// No clause: which words the program takes is `clap`'s to read.
 fn origin_argument<'a>(alloc: Global) -> Arg<'a> {
     Arg::new(alloc, "ORIGIN").required(true).help(
         "the name of the zone's apex, with or without a dot at its end",
@@ -62,6 +67,7 @@ fn origin_argument<'a>(alloc: Global) -> Arg<'a> {
 }
 
 /// The argument that names the zone file.
+// No clause: which words the program takes is `clap`'s to read.
 fn zone_file_argument<'a>(alloc: Global) -> Arg<'a> {
     Arg::new(alloc, "zone-file")
         .long("zone-file")
@@ -71,6 +77,7 @@ fn zone_file_argument<'a>(alloc: Global) -> Arg<'a> {
 }
 
 /// The command that prints the entries.
+// No clause: which words the program takes is `clap`'s to read.
 fn list_command<'a>(alloc: Global) -> Result<Command<'a>, AllocError> {
     let json = Arg::new(alloc, "json")
         .long("json")
@@ -83,6 +90,7 @@ fn list_command<'a>(alloc: Global) -> Result<Command<'a>, AllocError> {
 }
 
 /// The command that prints the zone.
+// No clause: which words the program takes is `clap`'s to read.
 fn zone_command<'a>(alloc: Global) -> Result<Command<'a>, AllocError> {
     let serial = Arg::new(alloc, "serial")
         .long("serial")
@@ -97,6 +105,7 @@ fn zone_command<'a>(alloc: Global) -> Result<Command<'a>, AllocError> {
 }
 
 /// The command that compacts.
+// No clause: which words the program takes is `clap`'s to read.
 fn compact_command<'a>(alloc: Global) -> Result<Command<'a>, AllocError> {
     Command::new(alloc, "compact")
         .about("Compacts it, in FILE and FILE-wal by turns")
@@ -106,6 +115,7 @@ fn compact_command<'a>(alloc: Global) -> Result<Command<'a>, AllocError> {
 }
 
 /// The command that imports a zone file.
+// No clause: which words the program takes is `clap`'s to read.
 fn import_command<'a>(alloc: Global) -> Result<Command<'a>, AllocError> {
     let zone_file = Arg::new(alloc, "zone-file")
         .long("zone-file")
@@ -125,6 +135,7 @@ fn import_command<'a>(alloc: Global) -> Result<Command<'a>, AllocError> {
 }
 
 /// The arguments that the program takes.
+// No clause: which words the program takes is `clap`'s to read.
 fn command<'a>(alloc: Global) -> Result<Command<'a>, AllocError> {
     let check = Command::new(alloc, "check")
         .about("Tells whether it is whole")
@@ -141,7 +152,10 @@ fn command<'a>(alloc: Global) -> Result<Command<'a>, AllocError> {
 }
 
 /// The name of the apex, with or without a dot at its end; the root is a dot alone.
-fn apex_of(alloc: Global, text: &str) -> Result<Name, Fault> {
+fn apex_of(alloc: Global, text: &str) -> Result<Name, Fault>
+    ensures spelled { IfOk result (IsApexText text.now) }
+    ensures refused { result ≡ Err fault.Origin → (apex : DomainName) → ¬ (IsApexText text.now apex) }
+{
     if text == "." {
         return Ok(Name::root());
     }
@@ -171,6 +185,7 @@ fn tell_of_origin<R: Eprint>(rt: &R, text: &str, fault: Fault) -> u8 {
 }
 
 /// Whether the message of a fault of a file begins with its line.
+// No clause: it decides only how a fault is reported.
 fn has_line(fault: Fault) -> bool {
     match fault {
         Fault::Zone(error) => matches!(error, ZoneError::Text(_)),
@@ -193,6 +208,7 @@ fn tell_of_file<R: Eprint>(rt: &R, file: &str, fault: Fault) -> u8 {
 }
 
 /// The bytes of a file.
+// No clause: no contract says which bytes a file has.
 fn bytes_of<R: Files + Alloc<A = Global>>(rt: &R, file: &str) -> Result<Vec<u8>, Fault> {
     match fs::read(rt, file) {
         Ok(bytes) => Ok(bytes),
@@ -255,6 +271,7 @@ fn print_entries<R: Print + Alloc<A = Global>>(
 }
 
 /// Lists a journal.
+// No clause: it prints.
 fn list<R: Files + Print + Alloc<A = Global>>(
     rt: &R,
     file: &str,
@@ -267,6 +284,7 @@ fn list<R: Files + Print + Alloc<A = Global>>(
 }
 
 /// Checks a journal.
+// No clause: it prints.
 fn check<R: Files + Print + Alloc<A = Global>>(rt: &R, file: &str) -> Result<u8, Fault> {
     let bytes = journal_of(rt, file)?;
     let found = read_entries(rt.alloc(), bytes.as_slice())?;
@@ -307,6 +325,7 @@ fn print_end<R: Files + Print + Eprint + Alloc<A = Global>>(
 }
 
 /// The serial of `--serial`, if that is given, or the status after a report on the standard error.
+// No clause: no contract says which words are given.
 fn serial_of<R: Eprint>(rt: &R, matches: &ArgMatches<'_>) -> Result<Option<u32>, u8> {
     let Some(text) = matches.get_str("serial") else {
         return Ok(None);
@@ -463,6 +482,7 @@ fn print_of_arguments<R: Print + Eprint + Alloc<A = Global>>(rt: &R, error: &Err
 }
 
 /// The words behind which the program stands, its own name first.
+// No clause: no contract says which arguments the system gives.
 fn given_words<R: Env + Alloc<A = Global>>(rt: &R) -> Result<Vec<String>, Fault> {
     match env::args(rt) {
         Ok(words) => Ok(words.collect(rt.alloc())?),

@@ -1,4 +1,6 @@
 //! The serials of the zone of a journal, from entry to entry.
+//!
+//! No clauses: the serials are only printed.
 
 use crate::fault::Fault;
 use crate::zone::{Zone, empty_zone};

@@ -1,5 +1,9 @@
 //! The zone at the end of a journal.
 
+ghost use Rattle.std.specs.Prelude.{IfOk};
+ghost use Rattle.journal.specs.Read.{contents};
+ghost use Rattle.zone_journal.specs.Zones.{IsZoneAfter};
+
 use crate::fault::Fault;
 use crate::zone_file::read_zone_of;
 use durable_updates::{recall, recall_to};
@@ -16,6 +20,7 @@ use std::rt::Files;
 pub type Zone = UpdatableZoneHandler<NoKeys>;
 
 /// A zone without records, whose place those of a snapshot take.
+// No clause: its records are those of the snapshot that takes their place.
 pub fn empty_zone(alloc: Global, origin: &Name) -> Result<Zone, AllocError> {
     let origin = LowerName::new(alloc, origin)?;
     let zone = InMemoryZoneHandler::new(
@@ -28,6 +33,7 @@ pub fn empty_zone(alloc: Global, origin: &Name) -> Result<Zone, AllocError> {
 }
 
 /// The zone of a zone file.
+// No clause: no contract says which bytes a file has.
 pub fn zone_of_file<R: Files + Eprint + Alloc<A = Global>>(
     rt: &R,
     origin: &Name,
@@ -43,7 +49,9 @@ pub fn with_entries(
     zone: Zone,
     entries: &[Vec<u8>],
     serial: Option<u32>,
-) -> Result<Zone, Fault> {
+) -> Result<Zone, Fault>
+    ensures { IfOk result (λ made. IsZoneAfter (contents entries.now) zone.zone serial made.zone) }
+{
     let mut zone = zone;
     let Some(serial) = serial else {
         recall(&mut zone, alloc, entries)?;

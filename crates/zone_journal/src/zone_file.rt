@@ -1,17 +1,21 @@
 //! Zone files, with the files that they include (RFC 1035 section 5.1).
 
+ghost use Rattle.std.specs.Prelude.{IfOk};
+ghost use Rattle.zone_journal.specs.Zones.{IsZoneOfFiles};
+
 use crate::fault::{Fault, fault_of_file};
 use hickory_base::zone_store::{AxfrPolicy, InMemoryZoneHandler, ZoneType};
 use hickory_server::store::file::{ZoneError, zone_of_records};
 use hickory_server::zone_text::{
     FileOpener, FileRefusal, IncludedError, ZoneFileError, read_zone_with_files,
 };
-use hickory_wire::{Items, Name, Record};
+use hickory_wire::Name;
 use std::alloc::Global;
 use std::rt::Files;
 use std::{fs, io, str};
 
 /// Why the system does not give a file that is included.
+// No clause: why the system gives no file is only reported.
 fn refusal_of(e: &io::Error) -> FileRefusal {
     match e.kind() {
         io::ErrorKind::NotFound | io::ErrorKind::NotADirectory => FileRefusal::Absent,
@@ -47,6 +51,7 @@ impl<R: Files + Alloc<A = Global>> FileOpener for FilesByPath<'_, R> {
 }
 
 /// The fault of a zone file. One of a file that it includes is told on the standard error, by the name of that file.
+// No clause: why a zone file is refused is only reported.
 fn fault_of_zone<R: Eprint>(rt: &R, refused: &IncludedError) -> Fault {
     match (refused.error, str::from_utf8(refused.file.as_slice())) {
         (ZoneFileError::Memory, _) => Fault::Memory,
@@ -58,38 +63,37 @@ fn fault_of_zone<R: Eprint>(rt: &R, refused: &IncludedError) -> Fault {
     }
 }
 
-/// The records of a zone file.
-fn records_of<R: Files + Eprint + Alloc<A = Global>>(
+/// The zone of this apex that the bytes of a zone file have with the files that it includes. A fault in one of these is
+/// told on the standard error.
+fn zone_with<R: Eprint + Alloc<A = Global>, O: FileOpener>(
     rt: &R,
+    files: &O,
     origin: &Name,
-    file: &str,
-) -> Result<Items<Record>, Fault> {
-    let bytes = match fs::read(rt, file) {
-        Ok(bytes) => bytes,
-        Err(e) => return Err(fault_of_file(&e)),
+    bytes: &[u8],
+) -> Result<InMemoryZoneHandler, Fault>
+    ensures { IfOk result (IsZoneOfFiles (O.opens files.now) origin.now bytes.now) }
+{
+    let (alloc, kind, policy) = (rt.alloc(), ZoneType::Primary, AxfrPolicy::Deny);
+    let records = match read_zone_with_files(alloc, bytes, origin, files) {
+        Ok(records) => records,
+        Err(refused) => return Err(fault_of_zone(rt, &refused)),
     };
-    match read_zone_with_files(rt.alloc(), &bytes, origin, &FilesByPath { rt }) {
-        Ok(records) => Ok(records),
-        Err(refused) => Err(fault_of_zone(rt, &refused)),
+    match zone_of_records(alloc, origin, records.into_vec(), kind, policy) {
+        Ok(zone) => Ok(zone),
+        Err(e) => Err(Fault::from(e)),
     }
 }
 
 /// The zone of this apex that a zone file has with the files that it includes. A fault in one of these is told on the
 /// standard error.
+// No clause: no contract says which bytes a file has. `zone_with` says which zone they are.
 pub fn read_zone_of<R: Files + Eprint + Alloc<A = Global>>(
     rt: &R,
     origin: &Name,
     file: &str,
 ) -> Result<InMemoryZoneHandler, Fault> {
-    let records = records_of(rt, origin, file)?.into_vec();
-    match zone_of_records(
-        rt.alloc(),
-        origin,
-        records,
-        ZoneType::Primary,
-        AxfrPolicy::Deny,
-    ) {
-        Ok(zone) => Ok(zone),
-        Err(e) => Err(Fault::from(e)),
+    match fs::read(rt, file) {
+        Ok(bytes) => zone_with(rt, &FilesByPath { rt }, origin, bytes.as_slice()),
+        Err(e) => Err(fault_of_file(&e)),
     }
 }

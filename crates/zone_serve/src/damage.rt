@@ -28,6 +28,7 @@ impl fmt::Display for Damage {
 }
 
 /// The entries of a file, if it can be read.
+// No clause: no contract says which bytes a file has.
 fn entries_of<R: Files + Alloc<A = Global>>(rt: &R, file: &str) -> Option<Vec<Vec<u8>>> {
     let bytes = bytes_of(rt, file).ok()?;
     let found = read_entries(rt.alloc(), &bytes).ok()?;
@@ -36,6 +37,7 @@ fn entries_of<R: Files + Alloc<A = Global>>(rt: &R, file: &str) -> Option<Vec<Ve
 
 /// Where the journal at a path is damaged: the first entry, of the file that counts, which may not be in the journal
 /// of this zone. It is looked for as far as files and memory give.
+// No clause: where a journal is damaged is only reported.
 pub fn find_damage<R: Files + Alloc<A = Global>>(
     rt: &R,
     path: &str,
@@ -53,6 +55,7 @@ pub fn find_damage<R: Files + Alloc<A = Global>>(
 
 /// Whether the file at a path is no journal's, as far as it can be read: of the two files of a journal that is
 /// refused it is this one, or else the one beside it.
+// No clause: no contract says which bytes a file has.
 pub fn is_none_at<R: Files + Alloc<A = Global>>(rt: &R, path: &str) -> bool {
     match bytes_of(rt, path) {
         Ok(bytes) => !is_journal(&bytes),

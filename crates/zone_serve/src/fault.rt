@@ -205,6 +205,7 @@ impl Fault {
     }
 
     /// The fault of an input that cannot be read.
+    // No clause: which error the system gives is only reported.
     pub fn of_input(e: &io::Error) -> Fault {
         match e.kind() {
             io::ErrorKind::OutOfMemory => Fault::Memory,

@@ -6,6 +6,7 @@ use std::rt::Files;
 use std::{fs, io, str};
 
 /// The fault that the system reports.
+// No clause: why the system gives no file is only reported.
 pub fn fault_of(e: &io::Error) -> FileRefusal {
     match e.kind() {
         io::ErrorKind::NotFound | io::ErrorKind::NotADirectory => FileRefusal::Absent,
@@ -17,6 +18,7 @@ pub fn fault_of(e: &io::Error) -> FileRefusal {
 }
 
 /// The bytes of a file.
+// No clause: no contract says which bytes a file has.
 pub fn bytes_of<R: Files + Alloc<A = Global>>(rt: &R, file: &str) -> Result<Vec<u8>, FileRefusal> {
     fs::read(rt, file).map_err(|e| fault_of(&e))
 }

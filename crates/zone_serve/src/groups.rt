@@ -27,6 +27,7 @@ const READ_AHEAD: usize = 1 << 16;
 /// A reader that knows whether a line is at hand.
 pub trait LinesAtHand: BufRead {
     /// Whether the next line is read without waiting.
+    // No clause: whether input is at hand decides only which lines are one group.
     fn has_line(&self) -> bool;
 }
 
@@ -265,6 +266,7 @@ fn serve_groups<
 }
 
 /// The number of a line, the first being 1, which is at a place of a group after so many lines.
+// No clause: the number of a line is only reported.
 fn number_of(before: u64, place: Option<usize>) -> Option<u64> {
     match place {
         Some(place) => Some(before.saturating_add(place as u64).saturating_add(1)),

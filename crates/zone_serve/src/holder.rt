@@ -45,6 +45,7 @@ impl JournalHolder {
 
 /// Whether the message of a line is an update, by the opcode in its third byte (RFC 1035 section 4.1.1, RFC 2136
 /// section 1.3). What it says of a line that is no message does not matter.
+// No clause: it decides only when updates are written, and a group may be served either way.
 fn is_update(line: &[u8]) -> bool {
     let mut words = line
         .split(|b| b.is_ascii_whitespace())
@@ -56,6 +57,7 @@ fn is_update(line: &[u8]) -> bool {
 }
 
 /// Whether so many lines are updates that they are worth holding.
+// No clause: as for `is_update`.
 fn are_worth(lines: &[Vec<u8>]) -> bool {
     lines
         .iter()

@@ -75,6 +75,7 @@ pub struct SystemFiles<'a> {
 }
 
 /// The fault of files that are not opened.
+// No clause: why the system opens no file is only reported.
 fn fault_of_opening(error: &OpenError) -> JournalFileFault {
     match error {
         OpenError::OutOfMemory => JournalFileFault::Memory,
@@ -182,6 +183,7 @@ fn apex_for<D: Disk + Drop>(
 }
 
 /// The fault of the journal at a path, with the entry at which it is damaged, if it is, or the file that is none.
+// No clause: why a journal is refused is only reported.
 fn with_place<R: Files + Alloc<A = Global>>(
     rt: &R,
     path: &str,
@@ -282,6 +284,7 @@ fn is_due(told: Option<u64>, now: u64) -> bool
 }
 
 /// The time, in seconds since 1970; 0 if the system gives none.
+// No clause: no contract says what a clock reads.
 fn moment<R: Clock>(rt: &R) -> u64 {
     now(rt).unwrap_or(0)
 }

@@ -69,6 +69,7 @@ use std::{env, io};
 use tsig::Keys;
 
 /// The arguments after the program's name. One that is not UTF-8 is wrong usage.
+// No clause: no contract says which arguments the system gives.
 fn given_words<R: Env + Alloc<A = Global>>(rt: &R) -> Result<Vec<String>, Fault> {
     match env::args(rt) {
         Ok(arguments) => Ok(arguments.skip(1).collect(rt.alloc())?),
@@ -86,6 +87,7 @@ fn tell_of_variable<R: Eprint>(rt: &R, name: &str, text: &str) -> u8 {
 }
 
 /// The text of a variable of the environment, if it is set. A fault is reported, and gives the status.
+// No clause: no contract says what the environment has.
 fn variable<R: Env + Eprint + Alloc<A = Global>>(rt: &R, name: &str) -> Result<Option<String>, u8> {
     match env::var(rt, name) {
         Ok(text) => Ok(Some(text)),
@@ -107,6 +109,7 @@ fn told_peer<R: Eprint>(rt: &R, name: &str, text: &str) -> Result<IpAddr, u8>
 
 /// The address of the peer, as systemd gives it (`REMOTE_ADDR`), or socat (`SOCAT_PEERADDR`), and 127.0.0.1 if neither
 /// does. A fault is reported, and gives the status.
+// No clause: no contract says what the environment has. `told_peer` says it of each text.
 fn peer_address<R: Env + Eprint + Alloc<A = Global>>(rt: &R) -> Result<IpAddr, u8> {
     if let Some(text) = variable(rt, "REMOTE_ADDR")? {
         return told_peer(rt, "REMOTE_ADDR", text.as_str());
@@ -284,6 +287,7 @@ fn serve(rt: &HostRuntime, settings: &Settings<'_>, address: IpAddr) -> Result<(
 }
 
 /// The file that a fault is of.
+// No clause: it decides only how a fault is reported.
 fn file_of<'a>(settings: &Settings<'a>, fault: Fault) -> Option<&'a str> {
     match fault {
         Fault::Zone { place, .. } => settings.zones.get(place).map(|zone| zone.file),
@@ -303,6 +307,7 @@ fn tell<R: Eprint>(rt: &R, fault: Fault) -> u8 {
 }
 
 /// Whether a fault of a zone file is of its text.
+// No clause: it decides only how a fault is reported.
 fn is_of_text(fault: ZoneFault) -> bool {
     match fault {
         ZoneFault::Zone(error) => matches!(error, ZoneError::Text(_)),
@@ -311,6 +316,7 @@ fn is_of_text(fault: ZoneFault) -> bool {
 }
 
 /// Whether a fault of a file is of a line of its text.
+// No clause: it decides only how a fault is reported.
 fn is_of_line(fault: SettingFault) -> bool {
     match fault {
         SettingFault::Zone(fault) => is_of_text(fault),
@@ -320,6 +326,7 @@ fn is_of_line(fault: SettingFault) -> bool {
 }
 
 /// Whether the message of a fault of a file begins with its line.
+// No clause: it decides only how a fault is reported.
 fn has_line(fault: Fault) -> bool {
     match fault {
         Fault::Zone { fault, .. } | Fault::Keys { fault } => match fault {

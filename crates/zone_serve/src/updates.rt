@@ -40,6 +40,7 @@ pub fn grants_of(
 }
 
 /// The place of the argument of this number among those with rules, from 1.
+// No clause: the place of an argument is only reported.
 fn place_of(arguments: &[UpdateArgument<'_>], number: usize) -> usize {
     arguments
         .get(number.saturating_sub(1))

@@ -75,8 +75,8 @@ pub(crate) fn told(
     }
 }
 
-/// What of a list was skipped, as a text: how many lines, and the numbers of the first three. It is empty if none was. No
-/// clause says what is printed.
+/// What of a list was skipped, as a text: how many lines, and the numbers of the first three. It is empty if none was.
+// No clause: the text is only printed.
 fn skipped(alloc: Global, report: &ListReport) -> Result<String, AllocError> {
     let lines = report.skipped();
     match report.first_skipped() {

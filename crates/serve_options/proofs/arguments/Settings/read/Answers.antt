@@ -44,5 +44,6 @@ returns-in-None-journal_fault c =
         journals = say.journals;
         no_groups = say.no_groups;
       };
-      of_one_process = c.in-None-journal_fault.ensures refl;
+      of_one_process = c.in-None-journal_fault.ensures.process refl;
+      keys = c.in-None-journal_fault.ensures.keys refl;
     }
