@@ -853,7 +853,6 @@ def try_journal_limit(folder, port):
     want("and it ends", kept.end())
     kept.limit = None
     want("and without the limit all is there", kept.start() and kept.has(made | {"later", "refused"}) == made | {"later"} and kept.update("last") == 0 and kept.end())
-    kept.words[-1] = path
     kept.start()
     os.rename(kept.journal, kept.journal + ".away")
     os.mkdir(kept.journal)
