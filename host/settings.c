@@ -69,7 +69,7 @@ const char *given(const char *option) {
 static void help(void) {
     puts("zoned --listen ADDRESS[@PORT].. --zone NAME=FILE.. [OPTION]..\n"
          "  --config FILE        of settings in TOML, as if these options stood here: option = value\n"
-         "  --check              read the files, tell what is wrong with them, and end\n  --version, --help");
+         "  --check              read the files, report what is wrong with them, and end\n  --version, --help");
     for (const struct option *o = options; o->name != NULL; o++)
         printf(o->most ? "  %-20s %s: %d to %d; %d\n" : "  %-20s %s\n", o->name, o->says, o->least, o->most, o->usual);
     exit(0);

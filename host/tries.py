@@ -1719,7 +1719,19 @@ def try_starts(folder, zone, port):
         want("limits are told if a worker cannot begin", run.returncode == 1 and "zoned: cannot begin a worker: Resource temporarily unavailable (limits" in run.stderr)
 
 
+def try_help():
+    """--help and the reference page have the same options, with the same defaults."""
+    said = subprocess.run([ZONED, "--help"], stdout=subprocess.PIPE, text=True).stdout
+    helped = {name: usual for name, usual in re.findall(r"^  (?:--\w+, )?(--[\w-]+)(?:.*: \d+ to \d+; (\d+)$)?", said, re.M)}
+    with open(os.path.join(os.path.dirname(os.path.abspath(__file__)), "../docs/reference/zoned.md")) as page:
+        rows = [it.strip("| \n").split(" | ") for it in page if it.startswith("| `--")]
+    named = {name: usual for row in rows for name, usual in zip(re.findall(r"`(--[\w-]+)", row[0]), (row[2] if len(row) > 2 else "").split("; ") * 2)}
+    want("the reference page has the options of --help", named.keys() == helped.keys() | {"--version"})
+    want("with their defaults", all(named[name] == usual for name, usual in helped.items() if usual))
+
+
 def try_arguments(zone, bad):
+    try_help()
     named = subprocess.run([ZONED, "--version"], stdout=subprocess.PIPE, text=True)
     want("--version tells it", named.returncode == 0 and named.stdout.startswith("zoned 0."))
     want("--check takes a good file", status(["--check", "--zone", f"example.com={zone}"]) == 0)
