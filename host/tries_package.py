@@ -113,7 +113,7 @@ def try_contents(package, folder):
 def lint(package):
     """Whether lintian finds no error in the package, and what it says."""
     if not install("lintian", "lintian"):
-        return True, "there is no lintian"
+        return False, "there is no lintian"
     return run("lintian", "--allow-root", "--fail-on", "error", package)
 
 
