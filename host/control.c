@@ -4,6 +4,23 @@
 
 int control = -1;
 
+int control_listen(void) {
+    const char *path = given("--control");
+    struct sockaddr_un at = {.sun_family = AF_UNIX};
+    struct stat there;
+    if (path == NULL)
+        return 0;
+    if (strlen(path) >= sizeof at.sun_path)
+        return complain("--control: \"%s\" has more than %zu bytes", path, sizeof at.sun_path - 1);
+    control = socket(AF_UNIX, SOCK_STREAM | SOCK_NONBLOCK | SOCK_CLOEXEC, 0);
+    strcpy(at.sun_path, path);
+    if (stat(path, &there) == 0 && S_ISSOCK(there.st_mode))
+        unlink(path);
+    if (bind(control, (struct sockaddr *)&at, sizeof at) != 0 || chmod(path, 0660) != 0 || listen(control, 64) != 0)
+        return complain("--control: \"%s\": %s", path, strerror(errno));
+    return 0;
+}
+
 /* What is not as it should be with a zone or a journal, or nothing. */
 static const char *lack(const struct given *it) {
     if (is_zone(it))
@@ -29,16 +46,30 @@ static bool find_zone(void) {
     return asked != NULL;
 }
 
+/* How long the two files of a journal are. */
+static intmax_t journal_length(const char *path) {
+    struct stat first = {.st_size = 0}, second = {.st_size = 0};
+    char other[PATH_MAX];
+    snprintf(other, sizeof other, "%s-wal", path);
+    stat(path, &first);
+    stat(other, &second);
+    return first.st_size + second.st_size;
+}
+
 static void write_zone(int fd) {
     const struct given *journal = find(settings, "--journal", asked->text);
+    const char *file = strchr(asked->text, '='), *why = asked->refused;
     char at[32] = "never";
     if (asked->bytes != NULL)
         strftime(at, sizeof at, "%Y-%m-%d %H:%M:%S UTC", gmtime(&asked->loaded));
-    dprintf(fd, "zone %s%s\nloaded: %s\n", asked->text, lack(asked), at);
-    if (asked->refused != NULL)
-        dprintf(fd, "refused: %s\n", asked->refused);
+    dprintf(fd, "zone: %.*s\nstate: %s%s\nloaded: %s\nfile: %s\n", (int)(file - asked->text), asked->text,
+            why == NULL            ? "served"
+            : asked->bytes != NULL ? "as before: "
+                                   : "failed: ",
+            why != NULL ? why : "", at, file + 1);
     if (journal != NULL)
-        dprintf(fd, "journal %s%s\n", journal->text, lack(journal));
+        dprintf(fd, "journal: %s%s\njournal-bytes: %jd\n", strchr(journal->text, '=') + 1, lack(journal),
+                journal_length(strchr(journal->text, '=') + 1));
 }
 
 /* From now on each worker writes the query log, into a file that it opens again. */

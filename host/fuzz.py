@@ -56,13 +56,15 @@ def use(s):
     return chance.random() < 0.1
 
 
-def ask(path):
-    """Connects to a Unix socket, and reads, or sends what is no command."""
-    with socket.socket(socket.AF_UNIX, socket.SOCK_STREAM) as s:
-        s.settimeout(5)
+def ask(family, address):
+    """Sends a socket a part of a request, or other bytes, and reads something, or leaves."""
+    with socket.socket(family, socket.SOCK_STREAM) as s:
+        s.settimeout(1)
         try:
-            s.connect(path)
-            s.recv(chance.choice([1, 8192])) if chance.random() < 0.7 else s.send(chance.randbytes(chance.randrange(1, 200)))
+            s.connect(address)
+            request = b"GET /metrics HTTP/1.1\r\nHost: localhost\r\n\r\n"
+            s.send(chance.choice([request, request[: chance.randrange(1, 30)], chance.randbytes(chance.randrange(1, 200)), chance.randbytes(9000)]))
+            s.recv(chance.choice([1, 8192]))
         except OSError:
             pass
 
@@ -104,8 +106,8 @@ def main():
     records = "".join(f'h{i} IN TXT "{"x" * 200}"\n' for i in range(2000))
     zone.write("$TTL 60\n@ IN SOA ns admin 7 3600 1800 604800 86400\n@ IN NS ns\nwww IN A 192.0.2.1\n" + records)
     zone.close()
-    told, control = f"{zone.name}.statistics", f"{zone.name}.control"
-    limits = ["--tcp-most", "40", "--tcp-client", "60", "--tcp-idle", "1", "--rate-limit", "100", "--statistics", told, "--control", control]
+    control = f"{zone.name}.control"
+    limits = ["--tcp-most", "40", "--tcp-client", "60", "--tcp-idle", "1", "--rate-limit", "100", "--metrics", f"127.0.0.1@{PORT + 1}", "--control", control]
     host = subprocess.Popen([ZONED, "--listen", f"127.0.0.1@{PORT}", "--zone", f"example.com={zone.name}", *limits])
     any(answers_as_ever() for _ in range(6))
     first, end, count, connections = children(host), time.time() + float(sys.argv[2]), 0, []
@@ -115,7 +117,7 @@ def main():
         count += 1
         round_of(datagrams, connections)
         if chance.random() < 0.01:
-            ask(chance.choice([told, told, told, control]))
+            ask(*chance.choice([(socket.AF_INET, ("127.0.0.1", PORT + 1))] * 3 + [(socket.AF_UNIX, control)]))
     for s in connections:
         s.close()
     datagrams.close()

@@ -9,6 +9,7 @@
 #include <fcntl.h>
 #include <grp.h>
 #include <libgen.h>
+#include <limits.h>
 #include <linux/sockios.h>
 #include <malloc.h>
 #include <netdb.h>
@@ -39,19 +40,8 @@
 #define MOST_WORKERS 64
 #define LAST_SECONDS 5 /* in which a worker that is to end sends the replies at hand */
 
-/* Options with a number. */
-enum number {
-    NO_NUMBER,
-    MAX_UDP,    /* bytes of a reply over UDP */
-    WORKERS,    /* processes that serve */
-    LOG_EVERY,  /* one in so many queries has a line */
-    RATE,       /* replies over UDP a second and network */
-    SLIP,       /* of those above it each so many says TC */
-    TCP_IDLE,   /* seconds */
-    TCP_MOST,   /* connections a worker */
-    TCP_CLIENT, /* connections a client and worker */
-    NUMBERS
-};
+/* The options with a number, which settings.c explains. */
+enum number { NO_NUMBER, MAX_UDP, WORKERS, LOG_EVERY, RATE, SLIP, TCP_IDLE, TCP_MOST, TCP_CLIENT, NUMBERS };
 
 /* An option: a number that is set within bounds, or a text. The library gets a text by set as it is, by set_pair as the
  * two parts of NAME=TEXT; of one that names a file, what is in the file. */
@@ -125,7 +115,10 @@ struct sockets {
 };
 
 /* sockets.c: how many sockets systemd has opened. open takes these, and opens those at given addresses; if there is no
- * place for them, it only looks whether nobody has these addresses. 0, or -1 with a line on the standard error. */
+ * place for them, it only looks whether nobody has these addresses. 0, or -1 with a line on the standard error.
+ * find_address is the address that an option names, for freeaddrinfo, or NULL with such a line; the text has its port if
+ * none is usual. */
+struct addrinfo *find_address(const char *option, const char *text, const char *usual);
 int adopted_sockets(void);
 int open_sockets(struct sockets *sockets);
 
@@ -138,17 +131,17 @@ int work(struct sockets *sockets);
 int open_log(const char *path);
 int wait_for(struct watch *watch, uint32_t events);
 
-/* statistics.c: share makes shared. listen_at opens a Unix socket at the path of an option, if it is given, of this
- * mode, if it is not 0. Both are 0, or -1 with a line on the standard error. add adds what the server counted since the
- * last time. write sends all as text, tell does so to a client. */
-extern int statistics, control; /* sockets, or less than 0 */
+/* statistics.c: share makes shared. add adds what the server counted since the last time. write sends all as text, with
+ * the names of nsd-control(8). metrics_answer answers a client over HTTP.
+ * control.c: control_answer answers a client.
+ * share and .._listen, which opens the socket that an option asks for, are 0, or -1 with a line on the standard error. */
+extern int metrics, control; /* sockets, or less than 0 */
 int share(void);
-int listen_at(const char *option, mode_t mode, int *fd);
 void statistics_add(void);
 void statistics_write(int fd);
-void statistics_tell(struct watch *listener);
-
-/* control.c: answers a client. */
+int metrics_listen(void);
+void metrics_answer(struct watch *listener);
+int control_listen(void);
 void control_answer(void);
 
 /* The bytes of an address. An IPv4 address that came by a socket of IPv6 (RFC 4291 section 2.5.5.2) has its 4. */

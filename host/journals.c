@@ -131,6 +131,7 @@ int journals_open(int seconds) {
     EACH_GIVEN (it)
         if (!wrong && strcmp(it->option->name, "--journal") == 0 && !is_failed(it->text))
             wrong = open_journal(it->text, &settings->has_failed[it - settings->given], seconds);
+    malloc_trim(0); /* to read a journal takes some times its length */
     return wrong;
 }
 

@@ -244,7 +244,7 @@ bool end_all(void) {
     is_over = true;
     notify("STOPPING=1\n");
     leave_sockets(NULL);
-    close(statistics);
+    close(metrics);
     close(control);
     signal_all(SIGTERM);
     if (!have_ended(LAST_SECONDS)) {
@@ -322,8 +322,7 @@ int main(int count __attribute__((unused)), char **words) {
         return 1;
     let_end(false);
     started = milliseconds(CLOCK_MONOTONIC);
-    if (share() != 0 || listen_at("--statistics", 0, &statistics) != 0 || listen_at("--control", 0660, &control) != 0 ||
-        !begin(true, NULL))
+    if (share() != 0 || metrics_listen() != 0 || control_listen() != 0 || !begin(true, NULL))
         return 1;
     sum_up();
     memcpy(failure, said, sizeof said);

@@ -33,7 +33,7 @@ static const struct option options[] = {
      .set_pair = zone_service_allow_update},
     {"--journal", "NAME=FILE: the updates of the zone at NAME are kept in FILE and FILE-wal", .set = NULL},
     {"--control", "PATH of a Unix socket where zonedctl asks it", .set = NULL},
-    {"--statistics", "PATH of a Unix socket where it tells what it has done", .set = NULL},
+    {"--metrics", "ADDRESS@PORT of loopback, where Prometheus reads its counters over HTTP", .set = NULL},
     {"--query-log", "PATH of a file to which a line for each query is put", .set = NULL},
     {"--user", "NAME of the user that it becomes once its sockets are open", .set = NULL},
     {"--query-log-every", "of so many queries one has a line", .number = LOG_EVERY, 1, 1000000, 1},
@@ -69,7 +69,7 @@ const char *given(const char *option) {
 static void help(void) {
     puts("zoned --listen ADDRESS[@PORT].. --zone NAME=FILE.. [OPTION]..\n"
          "  --config FILE        of settings in TOML, as if these options stood here: option = value\n"
-         "  --check              read the files, tell what is wrong with them, and end\n  --version, --help");
+         "  --check              read the files, report what is wrong with them, and end\n  --version, --help");
     for (const struct option *o = options; o->name != NULL; o++)
         printf(o->most ? "  %-20s %s: %d to %d; %d\n" : "  %-20s %s\n", o->name, o->says, o->least, o->most, o->usual);
     exit(0);

@@ -1,6 +1,6 @@
 #!/usr/bin/env python3
 """tries.py ZONED [PART..]: tries what zoned does with sockets, clients and signals, and each rule of a server, on loopback, or only parts
-that need a folder and a port, as journal_kills, crashes and full_disks. The last line is 'N passed, M failed'. PORT is the first of five
+that need a folder and a port, as journal_kills, crashes and full_disks. The last line is 'N passed, M failed'. PORT is the first of six
 ports that it uses, ZONE_SERVE the zone_serve that it is compared with, unless COMPARED is empty, KILLS how often a zoned with a journal is
 killed, and FULL in how many rounds its disk is full."""
 import hmac
@@ -20,6 +20,7 @@ import time
 ZONED = os.path.abspath(sys.argv[1])
 PORT = int(os.environ.get("PORT", "16351"))
 ZONE_SERVE = os.environ.get("ZONE_SERVE", os.path.join(os.path.dirname(os.path.dirname(os.path.abspath(__file__))), "crates/zone_serve/out/zone_serve"))
+METRICS = f"127.0.0.1@{PORT + 5}"
 SOA_AND_NS = "$TTL 60\n@ IN SOA ns admin 7 3600 1800 604800 86400\n@ IN NS ns\n"
 WWW = "www IN A 192.0.2.%d\n"
 KILLS, FULL = int(os.environ.get("KILLS", "40")), int(os.environ.get("FULL", "3"))
@@ -231,23 +232,29 @@ def try_loop():
     want("two servers that are handed each other's replies end at the first", count == 1)
 
 
-def statistics_text(path):
-    with socket.socket(socket.AF_UNIX, socket.SOCK_STREAM) as s:
+def over_http(request):
+    """What the port of metrics answers: its status, and the text after its heads."""
+    with socket.create_connection(("127.0.0.1", PORT + 5)) as s:
         s.settimeout(5)
-        s.connect(path)
-        return s.makefile("rb").read()
+        s.sendall(request)
+        head, _, text = s.makefile("rb").read().decode().partition("\r\n\r\n")
+        return head[9:12], text
 
 
-def statistics(path):
-    """What the socket tells: each number by what stands before it."""
-    text = statistics_text(path).decode()
+def statistics_text():
+    return over_http(b"GET /metrics HTTP/1.1\r\nHost: localhost\r\nAccept: text/plain\r\n\r\n")[1]
+
+
+def statistics():
+    """Each counter by the text before it."""
+    text = statistics_text()
     return {what: int(count) for what, count in (line.rsplit(" ", 1) for line in text.splitlines() if not line.startswith("# TYPE zoned_"))}
 
 
-def counts(path, before, wanted):
+def counts(before, wanted):
     """Whether what was counted since comes to this, and to nothing else. A reply may come before it is counted."""
     for _ in range(50):
-        now = statistics(path)
+        now = statistics()
         grown = {what: count - before[what] for what, count in now.items() if count != before[what]}
         if grown == wanted:
             return True
@@ -256,73 +263,87 @@ def counts(path, before, wanted):
     return False
 
 
-def try_statistics(path, port=PORT, records_wanted=20004):
+def try_statistics(port=PORT, records_wanted=20004):
     """What is counted of each kind of message, in numbers."""
     queries, unanswered, replies = "zoned_queries_total", "zoned_unanswered_total", "zoned_replies_total"
     received, sent = "zoned_received_bytes_total", "zoned_sent_bytes_total"
-    before, message = statistics(path), query("www.example.com")
+    before, message = statistics(), query("www.example.com")
     want("statistics have a line for each of 27 numbers", len(before) == 27)
     reply = udp(message, port=port)
-    want("a datagram and its reply are counted", counts(path, before, {f'{queries}{{transport="udp"}}': 1, received: len(message), f'{replies}{{code="NOERROR"}}': 1, sent: len(reply)}))
-    before, message = statistics(path), query("no.example.com")
+    want("a datagram and its reply are counted", counts(before, {f'{queries}{{transport="udp"}}': 1, received: len(message), f'{replies}{{code="NOERROR"}}': 1, sent: len(reply)}))
+    before, message = statistics(), query("no.example.com")
     with tcp(port) as s:
         f = s.makefile("rb")
         s.sendall(3 * frame(message))
         size = sum(len(read(f)) for _ in range(3))
-    want("so are messages of a connection, by their codes", counts(path, before, {f'{queries}{{transport="tcp"}}': 3, received: 3 * len(message), f'{replies}{{code="NXDOMAIN"}}': 3, sent: size}))
-    before, message = statistics(path), query("www.example.com", dns_class=3)
+    want("so are messages of a connection, by their codes", counts(before, {f'{queries}{{transport="tcp"}}': 3, received: 3 * len(message), f'{replies}{{code="NXDOMAIN"}}': 3, sent: size}))
+    before, message = statistics(), query("www.example.com", dns_class=3)
     reply = udp(message, port=port)
-    want("REFUSED is counted", counts(path, before, {f'{queries}{{transport="udp"}}': 1, received: len(message), f'{replies}{{code="REFUSED"}}': 1, sent: len(reply)}))
-    before, message = statistics(path), query("large.example.com", 16)
+    want("REFUSED is counted", counts(before, {f'{queries}{{transport="udp"}}': 1, received: len(message), f'{replies}{{code="REFUSED"}}': 1, sent: len(reply)}))
+    before, message = statistics(), query("large.example.com", 16)
     reply = udp(message, port=port)
-    want("so is a reply that is truncated", counts(path, before, {f'{queries}{{transport="udp"}}': 1, received: len(message), f'{replies}{{code="NOERROR"}}': 1, "zoned_truncated_total": 1, sent: len(reply)}))
+    want("so is a reply that is truncated", counts(before, {f'{queries}{{transport="udp"}}': 1, received: len(message), f'{replies}{{code="NOERROR"}}': 1, "zoned_truncated_total": 1, sent: len(reply)}))
     for what, message, source in (("denied", query("www.example.com"), "127.0.0.9"), ("response", query("www.example.com", flags=b"\x81\x00"), "127.0.0.1"), ("unreadable", b"\0" * 11, "127.0.0.1")):
-        before = statistics(path)
+        before = statistics()
         udp(message, 0.2, source=source, port=port)
-        want(f"a message without a reply is counted as {what}", counts(path, before, {f'{queries}{{transport="udp"}}': 1, received: len(message), f'{unanswered}{{reason="{what}"}}': 1}))
-    before, records = statistics(path), 0
+        want(f"a message without a reply is counted as {what}", counts(before, {f'{queries}{{transport="udp"}}': 1, received: len(message), f'{unanswered}{{reason="{what}"}}': 1}))
+    before, records = statistics(), 0
     with tcp(port) as s:
         s.sendall(frame(query("example.com", 252)))
         f, replies_sent, size = s.makefile("rb"), 0, 0
         while records < records_wanted:
             reply = read(f)
             records, replies_sent, size = records + answers(reply), replies_sent + 1, size + len(reply)
-    want("each reply of a transfer is counted", counts(path, before, {f'{queries}{{transport="tcp"}}': 1, received: len(query("example.com", 252)), f'{replies}{{code="NOERROR"}}': replies_sent, sent: size}))
+    want("each reply of a transfer is counted", counts(before, {f'{queries}{{transport="tcp"}}': 1, received: len(query("example.com", 252)), f'{replies}{{code="NOERROR"}}': replies_sent, sent: size}))
+
+
+def try_metrics():
+    """Requests over HTTP: only one is answered with the counters, and none keeps a connection."""
+    ok, text = over_http(b"GET /metrics HTTP/1.0\n")
+    want("the first line of a request is enough", ok == "200" and text.startswith("# TYPE zoned_queries_total counter\n"))
+    for line, wanted in (("GET / HTTP/1.1", "404"), ("GET /metricsx HTTP/1.1", "404"), ("POST /metrics HTTP/1.1", "405"), ("HEAD /metrics HTTP/1.1", "405"), ("\0" * 5000, "400")):
+        want(f"{line[:22].strip(chr(0))} is answered {wanted}", over_http(line.encode() + b"\r\n\r\n") == (wanted, ""))
+    want("half a line is answered 400", over_http(b"GET /met") == ("400", ""))
+    began, many = time.time(), [socket.create_connection(("127.0.0.1", PORT + 5)) for _ in range(8)]
+    want("a client that sends nothing is closed", all(closes(it, 10) for it in many))
+    want("others are answered meanwhile", udp(query("www.example.com")) is not None and time.time() - began < 10)
+    for it in many:
+        it.close()
 
 
 def try_workers(zone, port, path):
     """That all workers are counted together, and that none is forgotten."""
-    host = start(["--zone", f"example.com={zone}", "--workers", "3", "--statistics", path, "--tcp-idle", "1"], port)
+    host = start(["--zone", f"example.com={zone}", "--workers", "3", "--metrics", METRICS, "--tcp-idle", "1"], port)
     want("three workers start", wait_for(port))
     # (a worker counts behind its reply, so what answered just now may not stand there yet)
     time.sleep(0.5)
-    before = statistics(path)
+    before = statistics()
     for _ in range(60):
         udp(query("www.example.com"), port=port)
     message = query("www.example.com")
     grown = {'zoned_queries_total{transport="udp"}': 60, "zoned_received_bytes_total": 60 * len(message), 'zoned_replies_total{code="NOERROR"}': 60, "zoned_sent_bytes_total": 60 * len(udp(message, port=port))}
     grown = {what: count // 60 * 61 for what, count in grown.items()}
-    want("what they count is told together", counts(path, before, grown))
-    before = statistics(path)
+    want("what they count is told together", counts(before, grown))
+    before = statistics()
     for worker in children(host.pid):
         os.kill(worker, signal.SIGKILL)
         time.sleep(0.1)
     host.send_signal(signal.SIGHUP)
     time.sleep(4)
-    want("and stays when workers end and files are read anew", counts(path, before, {}))
+    want("and stays when workers end and files are read anew", counts(before, {}))
     with tcp(port) as s:
         s.sendall(frame(query("www.example.com")))
         s.recv(512)
         begun = time.time()
         host.terminate()
         want("they end at once though a connection stays open to which nothing is to be sent", host.wait(15) == 0 and time.time() - begun < 2)
-    open(path + "x", "w").write("kept")
-    want("a file is not replaced by the socket", status(["--listen", f"127.0.0.1@{port}", "--zone", f"example.com={zone}", "--statistics", path + "x"]) == 1 and open(path + "x").read() == "kept")
+    open(path, "w").write("kept")
+    want("a file is not replaced by a socket", status(["--listen", f"127.0.0.1@{port}", "--zone", f"example.com={zone}", "--control", path]) == 1 and open(path).read() == "kept")
 
 
-def try_limits(zone, port, path):
+def try_limits(zone, port):
     """That a network gets so many replies over UDP a second, and of those above it every second one says TC."""
-    host = start(["--zone", f"example.com={zone}", "--rate-limit", "5", "--rate-slip", "2", "--statistics", path], port)
+    host = start(["--zone", f"example.com={zone}", "--rate-limit", "5", "--rate-slip", "2", "--metrics", METRICS], port)
     want("a server with limits starts", wait_for(port))
     with socket.socket(socket.AF_INET, socket.SOCK_DGRAM) as s:
         s.connect(("127.0.0.1", port))
@@ -330,7 +351,7 @@ def try_limits(zone, port, path):
         message, replies = query("www.example.com"), []
         # within one second of the clock
         time.sleep(1.05 - time.time() % 1)
-        before = statistics(path)
+        before = statistics()
         for _ in range(15):
             s.send(message)
         try:
@@ -342,7 +363,7 @@ def try_limits(zone, port, path):
     want("a network gets so many replies a second", len(whole) == 5 and all(reply[-4:] == bytes([192, 0, 2, 1]) for reply in whole))
     short = [reply for reply in replies if is_truncated(reply)]
     want("every second one above that says TC, with the question alone", len(short) == 5 and all(reply[:2] == message[:2] and reply[4:] == message[4:] and answers(reply) == 0 for reply in short))
-    now = statistics(path)
+    now = statistics()
     kept = 'zoned_unanswered_total{reason="limited"}'
     want("and the others are counted as kept back", now[kept] - before[kept] == 5 and now["zoned_truncated_total"] - before["zoned_truncated_total"] == 5)
     time.sleep(1.05 - time.time() % 1)
@@ -708,8 +729,7 @@ def try_journal_clients(folder, port):
     records = "".join(f'h{i} IN TXT "{"x" * 200}"\n' for i in range(20000))
     large = "".join(f'large IN TXT "{i:03}{"x" * 250}"\n' for i in range(240))
     open(kept.zone, "w").write(SOA_AND_NS + WWW % 1 + records + large)
-    path = os.path.join(kept.folder, "statistics")
-    kept.words += ["--deny", "127.0.0.9", "--allow-transfer", "127.0.0.0/8", "--deny-transfer", "127.0.0.8", "--max-udp", "700", "--nsid", "here", "--statistics", path]
+    kept.words += ["--deny", "127.0.0.9", "--allow-transfer", "127.0.0.0/8", "--deny-transfer", "127.0.0.8", "--max-udp", "700", "--nsid", "here", "--metrics", METRICS]
     want("a large zone with a journal is ready", kept.start())
     with tcp(port) as s:
         f = s.makefile("rb")
@@ -738,7 +758,7 @@ def try_journal_clients(folder, port):
         s.sendall(frame(signed(update("last.dyn.example.com", 7))) + frame(bytes(11)))
         want("an update before what is no message is on the disk and answered", code(read(s.makefile("rb"))) == 0 and kept.has({"last"}) == {"last"})
     want("and each update is there after a kill of all", kept.kill("all") and kept.has({"t0", "t1", "last"}) == {"t0", "t1", "last"})
-    try_statistics(path, port, 20247)
+    try_statistics(port, 20247)
     want("it did all that by the process that it began with, and ends", "ended" not in kept.said() and kept.end())
 
 
@@ -808,8 +828,7 @@ def try_journal_configuration(folder, port):
 def try_journal_limit(folder, port):
     """A file that may not grow: updates are refused until all files are read again, and queries go on."""
     kept = Kept(folder, port, limit=32768)
-    path = os.path.join(kept.folder, "statistics")
-    kept.words += ["--statistics", path]
+    kept.words += ["--metrics", METRICS]
     kept.start()
     made, number, code_is = set(), 0, 0
     while number < 1000 and code_is == 0:
@@ -820,7 +839,7 @@ def try_journal_limit(folder, port):
     told_by = kept.not_written(kept.journal) + ": File too large\n", kept.not_written(kept.journal + "-wal") + ": File too large\n"
     count = lambda: sum(kept.said().count(it) for it in told_by)
     want("an update that is not written is not answered, and that is reported", code_is is None and count() == 1 and len(made) >= 100)
-    want("and counted", b"\nzoned_journal_failures_total 1\n" in statistics_text(path))
+    want("and counted", "\nzoned_journal_failures_total 1\n" in statistics_text())
     want("each update after it is refused, and queries go on", wait_for(port) and {kept.update("more") for _ in range(3)} <= {2, 5} and kept.has(made | {f"n{number - 1}"}) == made and count() == 1)
     serial = kept.serial()
     want("the zone is that of the updates that were acknowledged", serial == 7 + len(made))
@@ -834,7 +853,6 @@ def try_journal_limit(folder, port):
     want("and it ends", kept.end())
     kept.limit = None
     want("and without the limit all is there", kept.start() and kept.has(made | {"later", "refused"}) == made | {"later"} and kept.update("last") == 0 and kept.end())
-    kept.words[-1] = path
     kept.start()
     os.rename(kept.journal, kept.journal + ".away")
     os.mkdir(kept.journal)
@@ -1499,9 +1517,10 @@ def try_control(folder, port):
     want("status has a line for each process", status_is == 0 and said.startswith("zoned ") and all(f"process {it}" in said for it in (host.pid, *children(host.pid))))
     want("zones has the file of each zone", control(path, "zones") == (0, f"zone example.com={zone}\n"))
     status_is, said = control(path, "zonestatus", "EXAMPLE.com.")
-    want("zonestatus says when one was loaded", status_is == 0 and re.fullmatch(rf"zone example.com={zone}\nloaded: \d{{4}}-\d\d-\d\d \d\d:\d\d:\d\d UTC\n", said))
+    want("zonestatus says when one was loaded", status_is == 0 and re.fullmatch(rf"zone: example.com\nstate: served\nloaded: \d{{4}}-\d\d-\d\d \d\d:\d\d:\d\d UTC\nfile: {zone}\n", said))
     status_is, said = control(path, "stats")
-    want("stats has the counters", status_is == 0 and 'zoned_queries_total{transport="udp"} ' in said and "\nzoned_journal_failures_total 0\n" in said)
+    names = ("queries", "udp", "tcp", "rcode.NOERROR", "unanswered.denied", "truncated", "sent_bytes", "journal_failures")
+    want("stats has the counters", status_is == 0 and all(re.search(rf"^num\.{it}=\d+$", said, re.M) for it in names))
     seen = []
     for last in range(2, 22):
         open(zone, "w").write(SOA_AND_NS + WWW % last)
@@ -1582,7 +1601,7 @@ def try_bad_zones(folder, port):
     want("so does a file that is gone", control(path, "reload")[0] == 1 and served() == [4, 3, 4])
     want("zones says which they are", control(path, "zones")[1].count("(not taken: as before)\n") == 2)
     said = control(path, "zonestatus", "sub.example.com")[1]
-    want("zonestatus says why", said.startswith(f"zone sub.example.com={bad} (not taken: as before)\nloaded: 2") and f"\nrefused: {bad}:1:9: " in said)
+    want("zonestatus says why", said.startswith(f"zone: sub.example.com\nstate: as before: {bad}:1:9: ") and "\nloaded: 2" in said)
     want("and that there is no such zone", control(path, "zonestatus", "example.org") == (1, '"example.org" is not a zone of this server\n'))
     write(5, 5, 5)
     want("once they are mended all are taken", control(path, "reload") == (0, "") and served() == [5, 5, 5])
@@ -1608,6 +1627,7 @@ def try_bad_zone_with_journal(folder, port):
     kept.start()
     want("at a start it gets SERVFAIL, and the other zone is answered", [last_of(it, port) for it in ("www.example.com", "www.example.net")] == [-2, 8])
     want("an update of it is not taken", kept.update("c") != 0)
+    want("zonestatus says why", control(path, "zonestatus", "example.com")[1].startswith(f"zone: example.com\nstate: failed: {kept.zone}:1:"))
     want("zones says so", control(path, "zones")[1] == f"zone example.com={kept.zone} (not taken: SERVFAIL)\njournal example.com={kept.journal} (not opened)\nzone example.net={other}\n")
     open(kept.zone, "w").write(text)
     want("once it is mended, it is as its journal has it", control(path, "reload") == (0, "") and kept.has({"a", "b", "c"}) == {"a", "b"} and kept.update("c") == 0)
@@ -1619,6 +1639,8 @@ def try_journal_control(folder, port):
     kept, path = Kept(folder, port), os.path.join(folder, "kept_control")
     kept.words += ["--control", path]
     kept.start()
+    sizes = sum(os.path.getsize(kept.journal + it) for it in ("", "-wal"))
+    want("zonestatus has the size of a journal", f"\njournal: {kept.journal}\njournal-bytes: {sizes}\n" in control(path, "zonestatus", "example.com")[1])
     want("zones has journals", control(path, "zones") == (0, f"zone example.com={kept.zone}\njournal example.com={kept.journal}\n"))
     os.rename(kept.journal, kept.journal + ".away")
     os.mkdir(kept.journal)
@@ -1680,7 +1702,7 @@ def try_starts(folder, zone, port):
     path = os.path.join(folder, "s" * 200)
     with socket.socket(socket.AF_UNIX) as other:
         other.bind(path[:107])
-        status_is, said = told([*here, "--statistics", path])
+        status_is, said = told([*here, "--control", path])
         want("a path that is too long for a socket is told, and removes nothing", status_is == 1 and "has more than 107 bytes" in said and os.path.exists(path[:107]))
     want("a user that does not exist is told", told([*here, "--user", "no-such-user"]) == (1, 'zoned: --user: no such user: "no-such-user"\n'))
     many = [it for last in range(1, 18) for it in ("--listen", f"127.0.0.{last}@{port}")]
@@ -1697,7 +1719,19 @@ def try_starts(folder, zone, port):
         want("limits are told if a worker cannot begin", run.returncode == 1 and "zoned: cannot begin a worker: Resource temporarily unavailable (limits" in run.stderr)
 
 
+def try_help():
+    """--help and the reference page have the same options, with the same defaults."""
+    said = subprocess.run([ZONED, "--help"], stdout=subprocess.PIPE, text=True).stdout
+    helped = {name: usual for name, usual in re.findall(r"^  (?:--\w+, )?(--[\w-]+)(?:.*: \d+ to \d+; (\d+)$)?", said, re.M)}
+    with open(os.path.join(os.path.dirname(os.path.abspath(__file__)), "../docs/reference/zoned.md")) as page:
+        rows = [it.strip("| \n").split(" | ") for it in page if it.startswith("| `--")]
+    named = {name: usual for row in rows for name, usual in zip(re.findall(r"`(--[\w-]+)", row[0]), (row[2] if len(row) > 2 else "").split("; ") * 2)}
+    want("the reference page has the options of --help", named.keys() == helped.keys() | {"--version"})
+    want("with their defaults", all(named[name] == usual for name, usual in helped.items() if usual))
+
+
 def try_arguments(zone, bad):
+    try_help()
     named = subprocess.run([ZONED, "--version"], stdout=subprocess.PIPE, text=True)
     want("--version tells it", named.returncode == 0 and named.stdout.startswith("zoned 0."))
     want("--check takes a good file", status(["--check", "--zone", f"example.com={zone}"]) == 0)
@@ -1831,8 +1865,7 @@ def main():
     notified.bind(os.path.join(folder, "notify"))
     notified.settimeout(60)
     words = ["--zone", f"example.com={zone}", "--tcp-idle", "2", "--tcp-client", "20", "--deny", "127.0.0.9", "--allow-transfer", "127.0.0.0/8", "--deny-transfer", "127.0.0.8"]
-    path = os.path.join(folder, "statistics")
-    host = start([*words, "--statistics", path], PORT, env={**os.environ, "NOTIFY_SOCKET": os.path.join(folder, "notify")})
+    host = start([*words, "--metrics", METRICS], PORT, env={**os.environ, "NOTIFY_SOCKET": os.path.join(folder, "notify")})
     other = start(["--zone", f"example.com={zone}", "--max-udp", "600"], PORT + 1)
     try:
         want("systemd is told that it is ready", notified.recv(100) == b"STATUS=\nREADY=1\n")
@@ -1842,7 +1875,8 @@ def main():
         try_connections(children(host.pid)[0])
         try_rules()
         try_loop()
-        try_statistics(path)
+        try_statistics()
+        try_metrics()
         try_signals(host, notified, zone)
     finally:
         for it in (host, other):
@@ -1873,8 +1907,8 @@ def main():
     try_end(folder, zone, PORT + 2)
     try_one_server(zone, PORT + 2)
     try_starts(folder, zone, PORT + 2)
-    try_limits(zone, PORT + 2, path)
-    try_workers(zone, PORT + 2, path)
+    try_limits(zone, PORT + 2)
+    try_workers(zone, PORT + 2, os.path.join(folder, "kept"))
     try_privileges(zone, PORT + 2)
     if has_ipv6():
         try_wildcards(zone, PORT + 3)

@@ -50,7 +50,7 @@ def run(*words):
     environment = {**os.environ, "LC_ALL": "C.UTF-8", "DEBIAN_FRONTEND": "noninteractive"}
     how = {"stdin": subprocess.DEVNULL, "stdout": subprocess.PIPE, "stderr": subprocess.STDOUT, "text": True, "errors": "replace"}
     try:
-        ended = subprocess.run(words, cwd=ROOT, env=environment, timeout=240, **how)
+        ended = subprocess.run(words, cwd=ROOT, env=environment, timeout=900, **how)
     except subprocess.TimeoutExpired:
         return False, f"{words[0]} does not end"
     return ended.returncode == 0, ended.stdout
@@ -113,7 +113,7 @@ def try_contents(package, folder):
 def lint(package):
     """Whether lintian finds no error in the package, and what it says."""
     if not install("lintian", "lintian"):
-        return True, "there is no lintian"
+        return False, "there is no lintian"
     return run("lintian", "--allow-root", "--fail-on", "error", package)
 
 
