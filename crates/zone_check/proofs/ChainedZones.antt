@@ -1,38 +1,33 @@
 -- A signed zone of which nothing is found has a complete chain of NSEC records.
-use Rattle.std.proofs.Common.{◌≡◌, ◌==◌, ◌&&◌, ◌||◌, ◌++◌, ◌∙◌, ◌-◌, ◌+◌, ℕ, zero, suc, ◌<◌, ◌≤◌, Bool, true, false, List, [], ◌∷◌, map, drop, length, length-append, get_or, Option, Some, None, option_map, append_assoc, refl, sym, ap, subst, inl, inr, arith}
-use Rattle.std.specs.Prelude.{◌⊎◌, ◌↔◌, MatchOption, is_some, Ok, Err}
-use Rattle.std.specs.List.{AllByRecursion, Contains, drop-map, find, slice_get}
+use Rattle.std.proofs.Common.{◌≡◌, ◌++◌, ◌∙◌, ◌-◌, ◌+◌, ℕ, zero, suc, ◌<◌, ◌≤◌, true, List, [], ◌∷◌, map, drop, length, length-append, Option, Some, None, option_map, append_assoc, refl, sym, ap, subst, inl, inr, arith}
+use Rattle.std.specs.Prelude.{◌⊎◌, ◌↔◌, MatchOption, Ok, Err}
+use Rattle.std.specs.List.{AllByRecursion, Contains, drop-map}
 use Rattle.std.specs.Option.{option_and_then}
-use Rattle.std.proofs.lemmas.Option.{slice_get_read}
 use Rattle.std.proofs.lemmas.List.{drop-drop, length-drop, length-map}
-use Rattle.std.proofs.lemmas.Bool.Decides.{nat_tests}
 use Rattle.std.proofs.lemmas.List.Elements.{All-contains, All-from_recursion, Contains-append_right}
 use Rattle.wire_names.specs.rr.domain.DomainName.{DomainName}
-use Rattle.wire_names.specs.rr.domain.NameOrder.{Encloses, SameName, lower_label, lower_labels, name_cmp, name_eq}
-use Rattle.wire_names.specs.representation.NameHash.{same_from_eq}
-use Rattle.wire_names.proofs.lemmas.rr.domain.SameNames.{eq_from_same}
+use Rattle.wire_names.specs.rr.domain.NameOrder.{Encloses, SameName, lower_label, lower_labels}
 use Rattle.wire_messages.specs.rr.RecordData.{type_of}
 use Rattle.wire_messages.specs.serialize.reading.NameReading.{name}
 use Rattle.wire_messages.specs.serialize.reading.Reading.{Read}
 use Rattle.wire_messages.specs.declared.rr.rdata.RData.{RData}
 use Rattle.wire_messages.specs.declared.rr.record.Record.{Record}
 use Rattle.wire_messages.specs.declared.rr.rr_key.RrKey.{RrKey}
-use Rattle.zone_check.proofs.ChainOwners.{FoundIn, FromMap, HasName, InOrder, all_owners, among_rest, and_both, ascending, both_enclose, enclosed_or, equal_numbers, find_in, finds, from_map, in_map, in_owners, itself, not_true, order_owners, owners, same_number, same_or, true_or}
-use Rattle.zone_check.proofs.NextOwners.{before_alike, first_later_alike}
+use Rattle.zone_check.proofs.ChainOwners.{HasName, InOrder, all_owners, among_rest, ascending, both_enclose, enclosed_or, from_map, in_map, in_owners, itself, order_owners, owners, same_or}
+use Rattle.zone_check.proofs.NextOwners.{before_alike}
+use Rattle.zone_check.proofs.ZoneRecords.{Owned, in_or, owned, owns_by, owns_or, unfound}
 use Rattle.zone_check.proofs.SameNames.{cut_alike, dname_alike, first_alike, owns_alike}
 use Rattle.zone_check.specs.ChainedZones.{FaultlessZonesAreChained, IsFaultless, IsSaid, chain_kinds, key_in, keys_in}
-use Rattle.zone_check.specs.CheckedZones.{CheckedZone, IsBelowCut, IsBelowDname, IsCut, IsDnameOwner, IsInZone, Owns, ancestor, first_of, is_of, type_cname, type_dname, type_ds, type_ns, type_nsec, type_soa}
-use Rattle.zone_check.specs.Findings.{IsFoundOf}
-use Rattle.zone_check.specs.SignedZones.{HasIdleType, IsFirstLater, IsIdleType, IsLaterOwner, IsListed, IsNext, IsOfZone, is_type_at_cut, nsec_at, nsec_of, octets_of}
-use Rattle.zone_check.specs.declared.finding.Kind.{Kind}
+use Rattle.zone_check.specs.CheckedZones.{CheckedZone, IsCut, IsDnameOwner, IsInZone, Owns, ancestor, type_dname, type_ns, type_nsec, type_soa}
+use Rattle.zone_check.specs.SignedZones.{HasIdleType, IsHashed, IsLaterOwner, IsListed, IsNext, is_type_at_cut, nsec_at, nsec_of, octets_of}
 use Rattle.zone_check.specs.declared.finding.Kind.TheVariants as kind
 use Rattle.zone_denials.proofs.lemmas.EnclosedBetween.{encloses_up_to, same_back}
 use Rattle.zone_denials.proofs.lemmas.Members.{head_or_in}
-use Rattle.zone_denials.proofs.lemmas.NsecChains.{before_same, enclosed_same, encloses_drop, encloses_same, not_both}
+use Rattle.zone_denials.proofs.lemmas.NsecChains.{enclosed_same, encloses_drop, encloses_same, not_both}
 use Rattle.zone_denials.proofs.lemmas.SignedZones.{enclosing_trans, same_trans}
 use Rattle.zone_denials.specs.Nsec.{IsBefore, Nsec}
 use Rattle.zone_denials.specs.NsecChain.{AreLinked, next_owner}
-use Rattle.zone_denials.specs.NsecData.{nsec_in, with_next, with_types}
+use Rattle.zone_denials.specs.NsecData.{nsec_in, with_next}
 use Rattle.zone_denials.specs.SignedZone as keys
 use Rattle.zone_denials.specs.SignedZone.{HasSet, IsChained, IsLinked}
 
@@ -89,7 +84,7 @@ last_or P decide (suc most) = elim (decide (suc most)) [
   ]
 ]
 
-same_ancestors : (a b : DomainName) (j : ℕ) → SameName a b → SameName (ancestor a j) (ancestor b j)
+pub same_ancestors : (a b : DomainName) (j : ℕ) → SameName a b → SameName (ancestor a j) (ancestor b j)
 same_ancestors a b j s = record { labels = sym (drop-map lower_label j a.labels) ∙ ap (drop j) s.labels ∙ drop-map lower_label j b.labels; marks = s.marks }
 
 above_ancestor : (name : DomainName) (k j : ℕ) → ancestor (ancestor name k) j ≡ ancestor name (k + j)
@@ -101,46 +96,20 @@ same_length a b s = omega (arith, ap length s.labels, length-map a.labels lower_
 enclosing_length : (ns ms : List (List ℕ)) → Encloses ns ms → length ns ≤ length ms
 enclosing_length ns ms e = omega (arith, ap length e.ends, length-append e.front (lower_labels ns), length-map ns lower_label, length-map ms lower_label)
 
-module _ (zone : CheckedZone) (f : IsFaultless zone) where
-  at_place : (r : Record RData) (x : Contains zone.records r) → slice_get zone.records x.0 ≡ Some r
-  at_place r x = slice_get_read zone.records (length zone.records) x.0 r refl x.1 (sym x.2)
-
-  unfound : (k : Kind) → Contains chain_kinds k → (r : Record RData) (x : Contains zone.records r) → ¬ (IsFoundOf k zone x.0 r)
-  unfound k among r x h = f.none x.0 k among (subst (λ (o : Option (Record RData)). MatchOption o ⊥ (IsFoundOf k zone x.0)) (sym (at_place r x)) h)
-
+module _ (zone : CheckedZone) (f : IsFaultless chain_kinds zone) (unhashed : ¬ (IsHashed zone)) where
   within : (r : Record RData) → Contains zone.records r → IsInZone zone r.name
   within r x = elim (enclosed_or zone.origin.labels r.name.labels) [
     | inl e ↦ e
-    | inr fails ↦ absurd (unfound kind.Outside (0, omega arith, refl) r x fails)
+    | inr fails ↦ absurd (unfound zone chain_kinds f kind.Outside (0, omega arith, refl) r x fails)
   ]
 
-  owns_or : (name : DomainName) (t : ℕ) → Owns zone name t ⊎ ¬ (Owns zone name t)
-  owns_or name t = true_or (is_some (first_of zone name t))
-
-  -- a record of the name and type
-  record Owned (name : DomainName) (t : ℕ) : Type 0 where
-    it : Record RData
-    held : Contains zone.records it
-    named : SameName it.name name
-    typed : type_of it.rdata ≡ t
-    is : first_of zone name t ≡ Some it
-
-  owned : (name : DomainName) (t : ℕ) → Owns zone name t → Owned name t
-  owned name t h =
-      let o = find_in (is_of name t) zone.records h in
-      let both = and_both (name_eq o.it.name name) (type_of o.it.rdata == t) o.passes in
-      record { it = o.it; held = o.held; named = same_from_eq o.it.name name both.0; typed = same_number (type_of o.it.rdata) t both.1; is = o.is }
-
-  owns_by : (r : Record RData) → Contains zone.records r → (name : DomainName) (t : ℕ) → SameName r.name name → type_of r.rdata ≡ t → Owns zone name t
-  owns_by r x name t s typed = finds (is_of name t) zone.records r x (ap (λ b. b && (type_of r.rdata == t)) (eq_from_same r.name name s) ∙ equal_numbers (type_of r.rdata) t typed)
-
   has_set : (name : DomainName) (t : ℕ) → Owns zone name t → HasSet (keys_in zone) name t
-  has_set name t h = let o = owned name t h in record { key = key_in o.it; held = in_map key_in zone.records o.it o.held; named = o.named; typed = o.typed }
+  has_set name t h = let o = owned zone name t h in record { key = key_in o.it; held = in_map key_in zone.records o.it o.held; named = o.named; typed = o.typed }
 
   owns_of : (name : DomainName) (t : ℕ) → HasSet (keys_in zone) name t → Owns zone name t
   owns_of name t h =
       let m = from_map key_in zone.records h.key h.held in
-      owns_by m.it m.held name t (subst (λ (k : RrKey). SameName k.name name) (sym m.is) h.named) (ap (λ (k : RrKey). k.record_type) m.is ∙ h.typed)
+      owns_by zone m.it m.held name t (subst (λ (k : RrKey). SameName k.name name) (sym m.is) h.named) (ap (λ (k : RrKey). k.record_type) m.is ∙ h.typed)
 
   cut_key : (name : DomainName) → IsCut zone name → keys.IsCut (keys_in zone) name
   cut_key name c = record { below_apex = λ s. c.below.other (record { front = []; ends = sym s.labels }); servers = has_set name type_ns c.servers }
@@ -148,7 +117,7 @@ module _ (zone : CheckedZone) (f : IsFaultless zone) where
   key_cut : (name : DomainName) → keys.IsCut (keys_in zone) name → IsCut zone name
   key_cut name c =
       let owns = owns_of name type_ns c.servers in
-      let o = owned name type_ns owns in
+      let o = owned zone name type_ns owns in
       let inside = within o.it o.held in
       record {
         below = record {
@@ -170,7 +139,7 @@ module _ (zone : CheckedZone) (f : IsFaultless zone) where
     | inr fails ↦ inr (λ c. fails c.below.within)
     | inl e ↦ elim (enclosed_or name.labels zone.origin.labels) [
       | inl g ↦ inr (λ c. c.below.other g)
-      | inr fails ↦ elim (owns_or name type_ns) [
+      | inr fails ↦ elim (owns_or zone name type_ns) [
         | inl o ↦ let r : IsCut zone name = record { below = record { within = e; other = fails }; servers = o } in inl r
         | inr none ↦ inr (λ c. none c.servers)
       ]
@@ -180,7 +149,7 @@ module _ (zone : CheckedZone) (f : IsFaultless zone) where
   dname_or : (name : DomainName) → IsDnameOwner zone name ⊎ ¬ (IsDnameOwner zone name)
   dname_or name = elim (enclosed_or zone.origin.labels name.labels) [
     | inr fails ↦ inr (λ d. fails d.within)
-    | inl e ↦ elim (owns_or name type_dname) [
+    | inl e ↦ elim (owns_or zone name type_dname) [
       | inl o ↦ let r : IsDnameOwner zone name = record { within = e; owner = o } in inl r
       | inr none ↦ inr (λ d. none d.owner)
     ]
@@ -200,12 +169,12 @@ module _ (zone : CheckedZone) (f : IsFaultless zone) where
 
   -- a record below nothing that is closed has an NSEC record at its name
   nsec_of_open : (r : Record RData) (x : Contains zone.records r) → ((k : ℕ) → 0 < k → k ≤ length r.name.labels → ¬ (IsClosed (ancestor r.name k))) → Owns zone r.name type_nsec
-  nsec_of_open r x none = elim (owns_or r.name type_nsec) [
+  nsec_of_open r x none = elim (owns_or zone r.name type_nsec) [
     | inl o ↦ o
-    | inr fails ↦ absurd (unfound kind.NoNsec (2, omega arith, refl) r x (
+    | inr fails ↦ absurd (unfound zone chain_kinds f kind.NoNsec (2, omega arith, refl) r x (
       f.signed,
       record {
-        unhashed = f.unhashed;
+        unhashed = unhashed;
         of_zone = record {
           within = within r x;
           uncut = λ b. none b.count b.above b.is_ancestor (inl b.cut);
@@ -229,8 +198,8 @@ module _ (zone : CheckedZone) (f : IsFaultless zone) where
     says : nsec_of r ≡ Some (nsec o)
     owner : SameName (nsec o).owner o
 
-  says_by : (o : DomainName) (h : Owned o type_nsec) (said : Option Nsec) → nsec_of h.it ≡ said → Says o
-  says_by o h None e = absurd (unfound kind.UnreadNsec (3, omega arith, refl) h.it h.held (f.signed, record { typed = h.typed; unread = e }))
+  says_by : (o : DomainName) (h : Owned zone o type_nsec) (said : Option Nsec) → nsec_of h.it ≡ said → Says o
+  says_by o h None e = absurd (unfound zone chain_kinds f kind.UnreadNsec (3, omega arith, refl) h.it h.held (f.signed, record { typed = h.typed; unread = e }))
   says_by o h (Some n) e =
       let first : nsec_at zone o ≡ Some n = ap (option_and_then nsec_of) h.is ∙ e in
       let is : n ≡ nsec o = sym (ap (nsec_or o) first) in
@@ -245,7 +214,7 @@ module _ (zone : CheckedZone) (f : IsFaultless zone) where
       }
 
   says : (o : DomainName) → Owns zone o type_nsec → Says o
-  says o h = let w = owned o type_nsec h in says_by o w (nsec_of w.it) refl
+  says o h = let w = owned zone o type_nsec h in says_by o w (nsec_of w.it) refl
 
   abbrev names : List DomainName
   names = owners zone.records
@@ -254,7 +223,7 @@ module _ (zone : CheckedZone) (f : IsFaultless zone) where
   chain = map nsec names
 
   all_own : AllByRecursion (λ o. Owns zone o type_nsec) names
-  all_own = all_owners (λ o. Owns zone o type_nsec) zone.records (λ r x typed. owns_by r x r.name type_nsec (itself r.name) typed)
+  all_own = all_owners (λ o. Owns zone o type_nsec) zone.records (λ r x typed. owns_by zone r x r.name type_nsec (itself r.name) typed)
 
   owns_at : (o : DomainName) → Contains names o → Owns zone o type_nsec
   owns_at o x = All-contains (λ o. Owns zone o type_nsec) names o (All-from_recursion (λ o. Owns zone o type_nsec) names all_own) x
@@ -272,7 +241,7 @@ module _ (zone : CheckedZone) (f : IsFaultless zone) where
 
   at_name : (name : DomainName) → Owns zone name type_nsec → AtName name
   at_name name h =
-      let w = owned name type_nsec h in
+      let w = owned zone name type_nsec h in
       let o = in_owners zone.records w.it w.held w.typed in
       let same = same_trans o.o w.it.name name o.same w.named in
       record { o = o.o; held = o.held; same = same; owner = same_trans (nsec o.o).owner o.o name (says o.o (owns_at o.o o.held)).owner same }
@@ -285,7 +254,7 @@ module _ (zone : CheckedZone) (f : IsFaultless zone) where
     | inr none ↦ let a = at_name r.name (nsec_of_open r x none) in let l : IsLinked (keys_in zone) chain (key_in r) = record { by = nsec a.o; held = in_map nsec names a.o a.held; encloses = encloses_same r.name (nsec a.o).owner (same_back (nsec a.o).owner r.name a.owner); how = inl a.owner } in l
     | inl top ↦ by_top top
   ] where
-    by_owner : (top : Last (λ k. IsClosed (ancestor r.name k)) (length r.name.labels)) (t : ℕ) → Owned (ancestor r.name top.k) t → IsLinked (keys_in zone) chain (key_in r)
+    by_owner : (top : Last (λ k. IsClosed (ancestor r.name k)) (length r.name.labels)) (t : ℕ) → Owned zone (ancestor r.name top.k) t → IsLinked (keys_in zone) chain (key_in r)
     by_owner top t w =
         let c = ancestor r.name top.k in
         let left : length c.labels ≡ length r.name.labels - top.k = length-drop top.k r.name.labels in
@@ -303,15 +272,15 @@ module _ (zone : CheckedZone) (f : IsFaultless zone) where
 
     by_top : Last (λ k. IsClosed (ancestor r.name k)) (length r.name.labels) → IsLinked (keys_in zone) chain (key_in r)
     by_top top = elim top.is [
-      | inl c ↦ by_owner top type_ns (owned (ancestor r.name top.k) type_ns c.servers)
-      | inr d ↦ by_owner top type_dname (owned (ancestor r.name top.k) type_dname d.owner)
+      | inl c ↦ by_owner top type_ns (owned zone (ancestor r.name top.k) type_ns c.servers)
+      | inr d ↦ by_owner top type_dname (owned zone (ancestor r.name top.k) type_dname d.owner)
     ]
 
   -- the next name of each record is the owner of the one after it
   linked_next : (front : List DomainName) (o : DomainName) (rest : List DomainName) → names ≡ front ++ o ∷ rest → SameName (nsec o).next (next_owner zone.origin (map nsec rest))
   linked_next front o rest is = elim (same_or (nsec o).next (next_owner zone.origin (map nsec rest))) [
     | inl s ↦ s
-    | inr differs ↦ absurd (unfound kind.OtherNext (4, omega arith, refl) s.r s.held (f.signed, subst (λ (said : Option Nsec). MatchOption said ⊥ (λ n. ¬ (IsNext zone s.r.name n.next))) (sym s.says) (λ next. differs (by_next rest is next))))
+    | inr differs ↦ absurd (unfound zone chain_kinds f kind.OtherNext (4, omega arith, refl) s.r s.held (f.signed, subst (λ (said : Option Nsec). MatchOption said ⊥ (λ n. ¬ (IsNext zone s.r.name n.next))) (sym s.says) (λ next. differs (by_next rest is next))))
   ] where
     held_o : Contains names o
     held_o = subst (λ os. Contains os o) (sym is) (Contains-append_right front (o ∷ rest) o (0, omega arith, refl))
@@ -357,16 +326,16 @@ module _ (zone : CheckedZone) (f : IsFaultless zone) where
 
   -- the apex has an NSEC record
   apex_owns : Owns zone zone.origin type_nsec
-  apex_owns = elim (owns_or zone.origin type_soa) [
+  apex_owns = elim (owns_or zone zone.origin type_soa) [
     | inr fails ↦ absurd (f.start fails)
-    | inl h ↦ by_start (owned zone.origin type_soa h)
+    | inl h ↦ by_start (owned zone zone.origin type_soa h)
   ] where
     shorter : (r : Record RData) (k : ℕ) → SameName r.name zone.origin → 0 < k → k ≤ length r.name.labels → Encloses zone.origin.labels (ancestor r.name k).labels → ⊥
     shorter r k s above far e =
         let left : length (drop k r.name.labels) ≡ length r.name.labels - k = length-drop k r.name.labels in
         omega (arith, above, far, left, enclosing_length zone.origin.labels (drop k r.name.labels) e, same_length r.name zone.origin s)
 
-    by_start : Owned zone.origin type_soa → Owns zone zone.origin type_nsec
+    by_start : Owned zone zone.origin type_soa → Owns zone zone.origin type_nsec
     by_start w = owns_alike zone w.it.name zone.origin w.named type_nsec (nsec_of_open w.it w.held (λ k above far h. elim h [
       | inl c ↦ shorter w.it k w.named above far c.below.within
       | inr d ↦ shorter w.it k w.named above far d.within
@@ -391,16 +360,6 @@ module _ (zone : CheckedZone) (f : IsFaultless zone) where
   of_name : (n : Nsec) → Contains chain n → OfName n
   of_name n x = let m = from_map nsec names n x in record { o = m.it; held = m.held; is = m.is }
 
-  in_or : (types : List ℕ) (t : ℕ) → Contains types t ⊎ ¬ (Contains types t)
-  in_or [] t = inr (λ x. absurd (omega (arith, x.1)))
-  in_or (u ∷ types) t = elim (true_or (u == t)) [
-    | inl e ↦ let r : Contains (u ∷ types) t = (0, omega arith, same_number u t e) in inl r
-    | inr fails ↦ elim (in_or types t) [
-      | inl x ↦ inl (Contains-append_right (u ∷ []) types t x)
-      | inr none ↦ inr (λ x. elim (head_or_in u types t x) [ inl e ↦ fails (equal_numbers u t e) | inr more ↦ none more ])
-    ]
-  ]
-
   listed_by : (a b : DomainName) (t : ℕ) → SameName a b → keys.IsListed (keys_in zone) a t → IsListed zone b t
   listed_by a b t s (inl uncut) = inr (λ c. uncut (cut_key a (cut_alike zone b a (same_back a b s) c)))
   listed_by a b t s (inr (inl e)) = inl (subst (λ (u : ℕ). is_type_at_cut u ≡ true) (sym e) refl)
@@ -414,20 +373,20 @@ module _ (zone : CheckedZone) (f : IsFaultless zone) where
     s = says o (owns_at o held)
 
     forth : Contains (nsec o).types t → HasSet (keys_in zone) (nsec o).owner t
-    forth x = elim (owns_or s.r.name t) [
+    forth x = elim (owns_or zone s.r.name t) [
       | inl h ↦ has_set (nsec o).owner t (owns_alike zone s.r.name (nsec o).owner (same_trans s.r.name o (nsec o).owner s.named (same_back (nsec o).owner o s.owner)) t h)
-      | inr fails ↦ absurd (unfound kind.IdleType (5, omega arith, refl) s.r s.held (f.signed, subst (λ (said : Option Nsec). MatchOption said ⊥ (λ n. HasIdleType zone s.r.name n.types)) (sym s.says) (record { t = t; listed = x; idle = inl fails })))
+      | inr fails ↦ absurd (unfound zone chain_kinds f kind.IdleType (5, omega arith, refl) s.r s.held (f.signed, subst (λ (said : Option Nsec). MatchOption said ⊥ (λ n. HasIdleType zone s.r.name n.types)) (sym s.says) (record { t = t; listed = x; idle = inl fails })))
     ]
 
     back : HasSet (keys_in zone) (nsec o).owner t → Contains (nsec o).types t
     back h = elim (in_or (nsec o).types t) [
       | inl x ↦ x
-      | inr fails ↦ by_record (owned (nsec o).owner t (owns_of (nsec o).owner t h)) fails
+      | inr fails ↦ by_record (owned zone (nsec o).owner t (owns_of (nsec o).owner t h)) fails
     ] where
-      by_record : Owned (nsec o).owner t → ¬ (Contains (nsec o).types t) → Contains (nsec o).types t
+      by_record : Owned zone (nsec o).owner t → ¬ (Contains (nsec o).types t) → Contains (nsec o).types t
       by_record w fails =
           let at : nsec_at zone w.it.name ≡ Some (nsec o) = ap (option_and_then nsec_of) (first_alike zone.records w.it.name o type_nsec (same_trans w.it.name (nsec o).owner o w.named s.owner)) ∙ s.first in
-          absurd (unfound kind.Unlisted (6, omega arith, refl) w.it w.held (
+          absurd (unfound zone chain_kinds f kind.Unlisted (6, omega arith, refl) w.it w.held (
             f.signed,
             record {
               listed = subst (IsListed zone w.it.name) (sym w.typed) (listed_by (nsec o).owner w.it.name t (same_back w.it.name (nsec o).owner w.named) listed);
@@ -436,15 +395,15 @@ module _ (zone : CheckedZone) (f : IsFaultless zone) where
           ))
 
   apex_at : (o : DomainName) → Contains names o → HasSet (keys_in zone) (nsec o).owner type_soa ↔ SameName (nsec o).owner zone.origin
-  apex_at o held = (λ h. by_record (owned (nsec o).owner type_soa (owns_of (nsec o).owner type_soa h)), λ same. by_start same) where
-    by_record : Owned (nsec o).owner type_soa → SameName (nsec o).owner zone.origin
+  apex_at o held = (λ h. by_record (owned zone (nsec o).owner type_soa (owns_of (nsec o).owner type_soa h)), λ same. by_start same) where
+    by_record : Owned zone (nsec o).owner type_soa → SameName (nsec o).owner zone.origin
     by_record w = elim (enclosed_or w.it.name.labels zone.origin.labels) [
       | inl e ↦ same_trans (nsec o).owner w.it.name zone.origin (same_back w.it.name (nsec o).owner w.named) (record { labels = both_enclose w.it.name.labels zone.origin.labels e (within w.it w.held); marks = f.qualified w.it w.held ∙ sym f.apex })
-      | inr fails ↦ absurd (unfound kind.SoaBelowApex (1, omega arith, refl) w.it w.held (record { typed = w.typed; below = record { within = within w.it w.held; other = fails } }))
+      | inr fails ↦ absurd (unfound zone chain_kinds f kind.SoaBelowApex (1, omega arith, refl) w.it w.held (record { typed = w.typed; below = record { within = within w.it w.held; other = fails } }))
     ]
 
     by_start : SameName (nsec o).owner zone.origin → HasSet (keys_in zone) (nsec o).owner type_soa
-    by_start same = elim (owns_or zone.origin type_soa) [
+    by_start same = elim (owns_or zone zone.origin type_soa) [
       | inr fails ↦ absurd (f.start fails)
       | inl h ↦ has_set (nsec o).owner type_soa (owns_alike zone zone.origin (nsec o).owner (same_back (nsec o).owner zone.origin same) type_soa h)
     ]
@@ -487,4 +446,4 @@ module _ (zone : CheckedZone) (f : IsFaultless zone) where
   chained = (chain, is_chained, is_said)
 
 pub faultless_zones_are_chained : FaultlessZonesAreChained
-faultless_zones_are_chained zone f = chained zone f
+faultless_zones_are_chained zone f unhashed = chained zone f unhashed

@@ -1,9 +1,15 @@
 pub mod ChainOwners
 pub mod ChainedZones
 pub mod Earlier
+pub mod HashChains
+pub mod HashKeys
+pub mod HashedAnswers
+pub mod HashedChains
 pub mod Lookups
+pub mod NameHashes
 pub mod NextOwners
 pub mod SameNames
+pub mod Selections
 pub mod SignedAnswers
 pub mod Walks
-pub mod Selections
+pub mod ZoneRecords

@@ -1,5 +1,5 @@
 -- What maps from names and types to places say of the records there.
-use Rattle.std.proofs.Common.{◌≡◌, ◌==◌, ◌&&◌, ◌<◌, ℕ, Bool, true, false, cond, ◌∷◌, length, drop, get_or, suc, refl, sym, ap, ◌∙◌, ◌-◌, ◌≤◌, subst, arith, nat_lt, Option, Some, None}
+use Rattle.std.proofs.Common.{◌≡◌, ◌==◌, ◌&&◌, ◌<◌, ℕ, Bool, true, false, cond, List, ◌∷◌, length, drop, get_or, suc, refl, sym, ap, ◌∙◌, ◌-◌, ◌≤◌, subst, arith, nat_lt, Option, Some, None}
 use Rattle.std.specs.Prelude.{is_some}
 use Rattle.std.proofs.Math.Seq.{drop-cons}
 use Rattle.std.proofs.lemmas.Bool.Decides.{nat_tests}
@@ -19,7 +19,8 @@ use Rattle.wire_names.specs.rr.domain.DomainName.{DomainName}
 use Rattle.wire_names.specs.rr.domain.NameOrder.{SameName, lower_name, name_cmp, name_eq}
 use Rattle.zone_check.specs.CheckedZones.{Records, ancestor, is_of, is_data_of, is_data_type, is_named, is_server_of, is_wild_address, is_wild_address_of, server_of}
 use Rattle.zone_check.specs.CheckedZones.{type_nsec}
-use Rattle.zone_check.specs.Indexes.{HasData, HasFirsts, HasNsecs, HasServers, HasSignatures, HasWilds, Points}
+use Rattle.zone_check.specs.HashedZones.{hash_at, is_at, is_hash, is_of_hash}
+use Rattle.zone_check.specs.Indexes.{HasHashes, HasOwners, hash_cmp, HasData, HasFirsts, HasNsecs, HasServers, HasSignatures, HasWilds, Points}
 use Rattle.zone_check.specs.SignedZones.{covered_of, is_number, is_signature_of}
 use Rattle.zone_check.proofs.SameNames.{same_ancestor}
 
@@ -170,6 +171,30 @@ module _ (records : Records) (behind : ℕ) (r : Record RData) (some : 0 < behin
   no_nsec_more nsecs typed kept q =
       let fails : is_of q type_nsec r ≡ false = ap (λ b. name_eq r.name q && b) typed ∙ and_false (name_eq r.name q) in
       kept q ∙ ap (λ b. is_some (cond b (Some r) (find (is_of q type_nsec) (drop behind records)))) (sym fails) ∙ sym (found_at q)
+
+  pub one_more_owner : (old new : BTreeMap DomainName ℕ) → Updates name_cmp old new (lower_name r.name) (Some (behind - 1)) → HasOwners (drop behind records) old → HasOwners (drop (behind - 1) records) new
+  one_more_owner old new updates kept q =
+      ap is_some (updates.0 q ∙ ap (λ b. cond b (Some (behind - 1)) (get name_cmp old q)) (name_is r q))
+      ∙ both_some (is_at q r) (behind - 1) r (get name_cmp old q) (find (is_at q) (drop behind records)) (kept q) ∙ sym (ap (λ rs. is_some (find (is_at q) rs)) front)
+
+  module _ (origin : DomainName) where
+    hash_there : (q : List ℕ) (old : Option ℕ) → is_some old ≡ is_some (find (is_of_hash origin q) (drop behind records)) → is_some (cond (is_of_hash origin q r) (Some (behind - 1)) old) ≡ is_some (find (is_of_hash origin q) (drop (behind - 1) records))
+    hash_there q old kept = both_some (is_of_hash origin q r) (behind - 1) r old (find (is_of_hash origin q) (drop behind records)) kept ∙ sym (ap (λ rs. is_some (find (is_of_hash origin q) rs)) front)
+
+    pub one_more_hash : (old new : BTreeMap (List ℕ) ℕ) (hash : List ℕ) → Some hash ≡ hash_at origin r → Updates hash_cmp old new hash (Some (behind - 1)) → HasHashes origin records (drop behind records) old → HasHashes origin records (drop (behind - 1) records) new
+    one_more_hash old new hash has updates kept q =
+        let is : get hash_cmp new q ≡ cond (is_of_hash origin q r) (Some (behind - 1)) (get hash_cmp old q) = updates.0 q ∙ ap (λ o. cond (is_hash q o) (Some (behind - 1)) (get hash_cmp old q)) has in
+        record {
+          points = rw is (put_in_front (is_of_hash origin q) (get hash_cmp old q) (kept q).points);
+          there = ap is_some is ∙ hash_there q (get hash_cmp old q) (kept q).there;
+        }
+
+    pub no_hash_more : (hashes : BTreeMap (List ℕ) ℕ) → None ≡ hash_at origin r → HasHashes origin records (drop behind records) hashes → HasHashes origin records (drop (behind - 1) records) hashes
+    no_hash_more hashes none kept q =
+        let fails : is_of_hash origin q r ≡ false = ap (is_hash q) (sym none) in
+        let more : Points records (drop (behind - 1) records) (is_of_hash origin q) (cond (is_of_hash origin q r) (Some (behind - 1)) (get hash_cmp hashes q)) = put_in_front (is_of_hash origin q) (get hash_cmp hashes q) (kept q).points in
+        let there : is_some (cond (is_of_hash origin q r) (Some (behind - 1)) (get hash_cmp hashes q)) ≡ is_some (find (is_of_hash origin q) (drop (behind - 1) records)) = hash_there q (get hash_cmp hashes q) (kept q).there in
+        record { points = rw fails at more; there = rw fails at there }
 
 -- where a map points to, and where it points nowhere
 pub pointed : (records : Records) (test : Record RData → Bool) (found : Option ℕ) (place : ℕ) → Points records records test found → found ≡ Some place → slice_get records place ≡ find test records

@@ -1,6 +1,6 @@
 -- What functions that ask of signed zones answer.
 use Rattle.std.proofs.Common.{◌≡◌, ◌==◌, ◌||◌, ◌∙◌, ℕ, Bool, true, false, List, [], ◌∷◌, Option, Some, None, option_map, refl, sym, ap, subst, inl, inr, arith}
-use Rattle.std.specs.Prelude.{◌↔◌, ◌⊎◌, not, IfOk, IsTrue, MatchOption, Result, Ok, Err}
+use Rattle.std.specs.Prelude.{◌↔◌, not, IfOk, IsTrue, MatchOption, Result, Ok, Err}
 use Rattle.std.specs.List.{Contains, list_any}
 use Rattle.std.proofs.lemmas.Bool.Decides.{nat_tests}
 use Rattle.std.proofs.lemmas.List.Elements.{Contains-append_right}

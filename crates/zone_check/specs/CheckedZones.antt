@@ -25,7 +25,7 @@ abbrev pub checked_zone : DomainName → Records → Option ℕ → Option ℕ �
 checked_zone origin records previous time = record { origin = record origin { is_fqdn = true }; records = records; previous = previous; time = time }
 
 -- Types by their numbers (RFC 1035 section 3.2.2, RFC 2535 section 3, RFC 2782, RFC 3596 section 2.1, RFC 6672 section
--- 2.1, RFC 4034, RFC 5155 section 4).
+-- 2.1, RFC 4034, RFC 5155).
 abbrev pub type_a : ℕ
 type_a = 1
 
@@ -58,6 +58,9 @@ type_rrsig = 46
 
 abbrev pub type_nsec : ℕ
 type_nsec = 47
+
+abbrev pub type_nsec3 : ℕ
+type_nsec3 = 50
 
 abbrev pub type_nsec3param : ℕ
 type_nsec3param = 51

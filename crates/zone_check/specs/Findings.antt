@@ -1,5 +1,5 @@
 -- What a careful operator asks of a zone before it is served, and what is found where the zone does not answer.
-use Rattle.std.specs.Prelude.{◌≡◌, ◌≢◌, ◌<◌, ◌≤◌, ◌+◌, ◌-◌, ◌*◌, ◌==◌, ◌||◌, ◌^◌, ◌⊎◌, ℕ, zero, suc, List, [], ◌∷◌, ◌++◌, length, map, drop, cond, if◌then◌else◌, nat_lt, Bool, true, false, Option, Some, None, Ok, Err, MatchOption}
+use Rattle.std.specs.Prelude.{◌≡◌, ◌≢◌, ◌<◌, ◌≤◌, ◌+◌, ◌==◌, ◌||◌, ◌⊎◌, ℕ, zero, suc, List, [], ◌∷◌, ◌++◌, length, map, drop, cond, nat_lt, Bool, true, false, Option, Some, None, Ok, Err, MatchOption}
 use Rattle.std.specs.List.{slice_get}
 use Rattle.std.specs.Option.{option_map}
 use Rattle.wire_names.specs.rr.domain.DomainName.{DomainName}
@@ -14,8 +14,10 @@ use Rattle.wire_messages.specs.declared.rr.rdata.SOA.{SOA}
 use Rattle.wire_messages.specs.declared.rr.record.Record.{Record}
 use Rattle.zone_check.specs.CheckedZones.{CheckedZone, IsApex, IsBelowApex, IsBelowCut, IsBelowDname, IsBelowWildcard, IsCut, IsInZone, IsServer, Owns, OwnsAddress, OwnsData, Records, first_of}
 use Rattle.zone_check.specs.CheckedZones.{type_rrsig, type_a, type_aaaa, type_cname, type_dname, type_ds, type_ns, type_nsec, type_nsec3param, type_soa, type_srv}
+use Rattle.zone_check.specs.HashedZones.{HasOtherNextHash, HasOtherParameters, IsBesideNsec3, IsByName, IsIdleNsec3, IsUnlisted3, IsUnreadNsec3, LacksHash, ListsIdleTypeOf, ListsType, hashing_of}
 use Rattle.zone_check.specs.Serials.{IsAbove}
 use Rattle.zone_check.specs.SignedZones.{EndsSoon, HasEnded, HasIterations, HasOtherNext, IsSigned, IsUnlisted, IsUnreadNsec, IsUnsigned, LacksNsec, ListsIdleType, OfTimes, covered_of}
+use Rattle.zone_denials.specs.Nsec3.{Hashing}
 use Rattle.zone_check.specs.declared.finding.Finding.{Finding}
 use Rattle.zone_check.specs.declared.finding.Kind.{Kind}
 use Rattle.zone_check.specs.declared.finding.Kind.TheVariants as kind
@@ -85,9 +87,11 @@ pub record IsDataAtCut (zone : CheckedZone) (r : Record RData) : Type 0 where
   pub typed : is_cut_type (type_of r.rdata) ≡ false
   pub cut : IsCut zone r.name
 
--- The TTL is another than that of the first record of the RRset (RFC 2181 section 5.2).
-abbrev pub HasOtherTtl : CheckedZone → Record RData → Type 0
-HasOtherTtl zone r = OfFirst (λ first. first.ttl ≢ r.ttl) zone r
+-- The TTL is another than that of the first record of the RRset (RFC 2181 section 5.2). A signature has the TTL of what it
+-- covers (RFC 4034 section 3).
+pub record HasOtherTtl (zone : CheckedZone) (r : Record RData) : Type 0 where
+  pub other : ¬ (type_of r.rdata ≡ type_rrsig)
+  pub differs : OfFirst (λ first. first.ttl ≢ r.ttl) zone r
 
 abbrev pub read_part : Read DomainName → Option DomainName
 read_part (Ok part) = Some part.0
@@ -217,6 +221,7 @@ IsFoundIfSigned kind.Unsigned zone r = IsUnsigned zone r
 IsFoundIfSigned kind.Ended zone r = OfTimes HasEnded zone r.rdata
 IsFoundIfSigned kind.EndsSoon zone r = OfTimes EndsSoon zone r.rdata
 IsFoundIfSigned kind.Iterations zone r = HasIterations r.rdata
+IsFoundIfSigned kind.UnreadNsec3 zone r = IsUnreadNsec3 zone r
 IsFoundIfSigned other zone r = ⊥
 
 abbrev pub IsFoundOfSigned : Kind → CheckedZone → Record RData → Type 0
@@ -253,7 +258,49 @@ is_for_signed kind.Unsigned = true
 is_for_signed kind.Ended = true
 is_for_signed kind.EndsSoon = true
 is_for_signed kind.Iterations = true
+is_for_signed kind.UnreadNsec3 = true
 is_for_signed other = false
+
+-- What is found of an owner name, if the names of the zone are hashed by these parameters.
+abbrev pub IsFoundOfOwner : Kind → CheckedZone → Hashing → DomainName → DomainName → Type 0
+IsFoundOfOwner kind.NoNsec3 zone by owner name = LacksHash zone by owner name
+IsFoundOfOwner kind.IdleType3 zone by owner name = ListsIdleTypeOf zone by name
+IsFoundOfOwner other zone by owner name = ⊥
+
+-- What is found of a name above an owner name that owns nothing.
+abbrev pub IsFoundOfEmpty : Kind → CheckedZone → Hashing → DomainName → DomainName → Type 0
+IsFoundOfEmpty kind.NoNsec3 zone by owner name = LacksHash zone by owner name
+IsFoundOfEmpty kind.IdleType3 zone by owner name = ListsType zone by name
+IsFoundOfEmpty other zone by owner name = ⊥
+
+-- What is found of the names that exist by a record.
+abbrev pub IsFoundByName : Kind → CheckedZone → Hashing → Record RData → Type 0
+IsFoundByName k zone by r = IsByName zone (IsFoundOfOwner k zone by r.name) (IsFoundOfEmpty k zone by r.name) r
+
+-- What is found of a record if the names of the zone are hashed by these parameters, by kind.
+abbrev pub IsFoundIfHashed : Kind → CheckedZone → Hashing → Record RData → Type 0
+IsFoundIfHashed kind.OtherParameters zone by r = HasOtherParameters by r
+IsFoundIfHashed kind.OtherNextHash zone by r = HasOtherNextHash zone r
+IsFoundIfHashed kind.IdleNsec3 zone by r = IsIdleNsec3 zone by r
+IsFoundIfHashed kind.BesideNsec3 zone by r = IsBesideNsec3 zone r
+IsFoundIfHashed kind.NoNsec3 zone by r = IsFoundByName kind.NoNsec3 zone by r
+IsFoundIfHashed kind.IdleType3 zone by r = IsFoundByName kind.IdleType3 zone by r
+IsFoundIfHashed kind.Unlisted3 zone by r = IsUnlisted3 zone by r
+IsFoundIfHashed other zone by r = ⊥
+
+abbrev pub IsFoundOfHashed : Kind → CheckedZone → Record RData → Type 0
+IsFoundOfHashed k zone r = MatchOption (hashing_of zone) ⊥ (λ by. IsFoundIfHashed k zone by r)
+
+-- the kinds of findings that only zones whose names are hashed have
+abbrev pub is_for_hashed : Kind → Bool
+is_for_hashed kind.OtherParameters = true
+is_for_hashed kind.OtherNextHash = true
+is_for_hashed kind.IdleNsec3 = true
+is_for_hashed kind.BesideNsec3 = true
+is_for_hashed kind.NoNsec3 = true
+is_for_hashed kind.IdleType3 = true
+is_for_hashed kind.Unlisted3 = true
+is_for_hashed other = false
 
 abbrev pub OneOf : Bool → Type 0 → Type 0 → Type 0
 OneOf true A B = A
@@ -261,7 +308,7 @@ OneOf false A B = B
 
 -- What is found of the record at a place, by kind.
 abbrev pub IsFoundOf : Kind → CheckedZone → ℕ → Record RData → Type 0
-IsFoundOf k zone place r = OneOf (is_for_signed k) (IsFoundOfSigned k zone r) (IsFoundOfAny k zone place r)
+IsFoundOf k zone place r = OneOf (is_for_hashed k) (IsFoundOfHashed k zone r) (OneOf (is_for_signed k) (IsFoundOfSigned k zone r) (IsFoundOfAny k zone place r))
 
 -- What is found of the zone as a whole, by kind.
 abbrev pub IsFoundOfZone : Kind → CheckedZone → Type 0
@@ -278,7 +325,8 @@ abbrev pub kinds_of_records : List Kind
 kinds_of_records =
     kind.Outside ∷ kind.SoaBelowApex ∷ kind.Second ∷ kind.Repeated ∷ kind.CnameBesideData ∷ kind.BelowDname ∷ kind.BelowCut ∷ kind.AtCut ∷ kind.OtherTtl ∷ kind.NoAddress ∷ kind.NoGlue ∷ kind.IdleGlue ∷ kind.HostIsAlias
     ∷ kind.SerialNotAbove ∷ kind.Refresh ∷ kind.Retry ∷ kind.Expire ∷ kind.Minimum ∷ kind.DsAtApex ∷ kind.Nsec3paramBelowApex ∷ kind.CoversNothing
-    ∷ kind.NoNsec ∷ kind.UnreadNsec ∷ kind.OtherNext ∷ kind.IdleType ∷ kind.Unlisted ∷ kind.Unsigned ∷ kind.Ended ∷ kind.EndsSoon ∷ kind.Iterations ∷ []
+    ∷ kind.NoNsec ∷ kind.UnreadNsec ∷ kind.OtherNext ∷ kind.IdleType ∷ kind.Unlisted ∷ kind.Unsigned ∷ kind.Ended ∷ kind.EndsSoon ∷ kind.Iterations
+    ∷ kind.UnreadNsec3 ∷ kind.OtherParameters ∷ kind.OtherNextHash ∷ kind.IdleNsec3 ∷ kind.BesideNsec3 ∷ kind.NoNsec3 ∷ kind.IdleType3 ∷ kind.Unlisted3 ∷ []
 
 abbrev pub at_place : ℕ → Kind → Finding
 at_place place k = record { place = Some place; kind = k }

@@ -1,8 +1,11 @@
 -- How records are found without a walk over all of them: by maps from what they are found by to the place of the first
 -- such record.
-use Rattle.std.specs.Prelude.{◌≡◌, ◌<◌, ℕ, zero, suc, Bool, false, List, Option, Some, None, is_some, cond, length}
+use Rattle.std.specs.Prelude.{◌≡◌, ◌<◌, ◌↔◌, ⊤, ℕ, zero, suc, Bool, false, IsSome, List, MatchOption, Option, Some, None, is_some, cond, length}
 use Rattle.std.specs.List.{find, slice_get}
-use Rattle.std.specs.Option.{option_map_or}
+use Rattle.std.specs.Option.{option_and_then, option_map_or}
+use Rattle.std.specs.Cmp.Lexicographic.{slice_cmp}
+use Rattle.std.specs.Ordering.{nat_cmp}
+use Rattle.std.specs.declared.cmp.Ordering.{Ordering}
 use Rattle.std.specs.BTreeMap.{BTreeMap, get}
 use Rattle.wire_messages.specs.rr.RecordData.{type_of}
 use Rattle.wire_messages.specs.declared.rr.rdata.RData.{RData}
@@ -11,8 +14,10 @@ use Rattle.wire_messages.specs.declared.rr.rr_key.RrKey.{RrKey}
 use Rattle.wire_messages.specs.rr.RrKeys.{key_cmp}
 use Rattle.wire_names.specs.rr.domain.DomainName.{DomainName}
 use Rattle.wire_names.specs.rr.domain.NameOrder.{lower_name, name_cmp}
-use Rattle.zone_check.specs.CheckedZones.{Records, is_of, is_data_of, is_server_of, is_wild_address_of, type_nsec}
+use Rattle.zone_check.specs.CheckedZones.{Records, is_of, is_data_of, is_server_of, is_wild_address_of, type_nsec, type_nsec3param}
+use Rattle.zone_check.specs.HashedZones.{IsOfName, is_at, is_of_hash, parameters_of}
 use Rattle.zone_check.specs.SignedZones.{is_signature_of}
+use Rattle.zone_denials.specs.Nsec3.{Hashing, IsBelow}
 
 -- The place is that of the first of the last records that passes the test, or there is none.
 abbrev pub Points : Records → Records → (Record RData → Bool) → Option ℕ → Type 0
@@ -69,3 +74,41 @@ pub record HasEarlierTo (records : Records) (count : ℕ) (earlier : List (Optio
 -- And for all of them.
 abbrev pub HasEarlier : Records → List (Option ℕ) → Type 0
 HasEarlier records earlier = HasEarlierTo records (length records) earlier
+
+-- the order of hashes (RFC 5155 section 3.1.7)
+abbrev pub hash_cmp : List ℕ → List ℕ → Ordering
+hash_cmp = slice_cmp nat_cmp
+
+-- The map has the owner names of the last records.
+abbrev pub HasOwners : Records → BTreeMap DomainName ℕ → Type 0
+HasOwners last owners = (q : DomainName) → is_some (get name_cmp owners q) ≡ is_some (find (is_at q) last)
+
+-- The map has for each hash the place of the first of the last records that is an NSEC3 record of that hash.
+pub record PointsToHash (origin : DomainName) (records last : Records) (hashes : BTreeMap (List ℕ) ℕ) (q : List ℕ) : Type 0 where
+  pub points : Points records last (is_of_hash origin q) (get hash_cmp hashes q)
+  pub there : is_some (get hash_cmp hashes q) ≡ is_some (find (is_of_hash origin q) last)
+
+abbrev pub HasHashes : DomainName → Records → Records → BTreeMap (List ℕ) ℕ → Type 0
+HasHashes origin records last hashes = (q : List ℕ) → PointsToHash origin records last hashes q
+
+-- The map has the hash, or the hash after another or before it.
+abbrev pub IsKey : BTreeMap (List ℕ) ℕ → List ℕ → Type 0
+IsKey hashes q = IsSome (get hash_cmp hashes q)
+
+abbrev pub IsLaterKey : BTreeMap (List ℕ) ℕ → List ℕ → List ℕ → Type 0
+IsLaterKey hashes hash q = IsBelow hash q × IsKey hashes q
+
+abbrev pub IsEarlierKey : BTreeMap (List ℕ) ℕ → List ℕ → List ℕ → Type 0
+IsEarlierKey hashes hash q = IsBelow q hash × IsKey hashes q
+
+-- The map has the hashes of the names that exist by the last records.
+abbrev pub HasNames : DomainName → Records → Hashing → Records → BTreeMap (List ℕ) ℕ → Type 0
+HasNames origin records by last names = (q : List ℕ) → IsSome (get hash_cmp names q) ↔ IsOfName origin records by last q
+
+-- the parameters among the records of a zone with this apex
+abbrev pub hashing_in : DomainName → Records → Option Hashing
+hashing_in origin records = option_and_then (λ (r : Record RData). parameters_of r.rdata) (find (is_of origin type_nsec3param) records)
+
+-- The map has the hashes of all names that exist, if the zone has parameters.
+abbrev pub HasAllNames : DomainName → Records → BTreeMap (List ℕ) ℕ → Type 0
+HasAllNames origin records names = MatchOption (hashing_in origin records) ⊤ (λ by. HasNames origin records by records names)

@@ -12,7 +12,7 @@ use Rattle.zone_check.specs.CheckedZones.{CheckedZone, IsBelowCut, IsBelowDname,
 use Rattle.zone_check.specs.CheckedZones.{type_cname, type_ds, type_ns, type_nsec, type_nsec3param, type_rrsig, type_soa}
 use Rattle.zone_check.specs.Serials.{IsAbove}
 use Rattle.zone_denials.specs.Nsec.{IsBefore, Nsec}
-use Rattle.zone_denials.specs.Nsec3Data.{iterations_in}
+use Rattle.zone_denials.specs.Nsec3Data.{parameters_in}
 use Rattle.zone_denials.specs.NsecData.{nsec_in}
 use Rattle.zone_denials.specs.RrsigData.{covered_in, expiration_in}
 
@@ -149,10 +149,6 @@ pub record EndsSoon (time expiration : ℕ) : Type 0 where
   pub lasts : ¬ (HasEnded time expiration)
   pub soon : HasEnded ((time + 604800) % 2 ^ 32) expiration
 
--- the number of iterations of an NSEC3PARAM record (RFC 5155 section 4.1.3)
-abbrev pub iterations_of : RData → Option ℕ
-iterations_of content = option_and_then iterations_in (octets_of type_nsec3param content)
-
--- NSEC3 parameters with iterations (RFC 9276 section 3.1).
+-- An NSEC3PARAM record has iterations (RFC 5155 section 4.1.3, RFC 9276 section 3.1).
 abbrev pub HasIterations : RData → Type 0
-HasIterations content = MatchOption (iterations_of content) ⊥ (λ n. 0 < n)
+HasIterations content = MatchOption (option_and_then parameters_in (octets_of type_nsec3param content)) ⊥ (λ by. 0 < by.iterations)

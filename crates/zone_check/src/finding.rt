@@ -112,6 +112,34 @@ pub enum Kind {
     /// NSEC3 parameters with iterations (RFC 9276 section 3.1).
     #[error("the number of iterations is not 0")]
     Iterations,
+    /// An NSEC3 record does not have the form of one of SHA-1, or an NSEC3PARAM record not that of one with flags 0
+    /// (RFC 5155 sections 3, 4.1.2 and 11).
+    #[error("not the form of an NSEC3 or NSEC3PARAM record of hash algorithm 1")]
+    UnreadNsec3,
+    /// An NSEC3 record has another salt or another number of iterations than the NSEC3PARAM record of the apex (RFC
+    /// 5155 section 7.1).
+    #[error("other parameters than those of the zone")]
+    OtherParameters,
+    /// The next hash of an NSEC3 record is not that of the next one (RFC 5155 section 3.1.7).
+    #[error("the next hash is not that of the next record")]
+    OtherNextHash,
+    /// No name of the zone has the hash of the NSEC3 record (RFC 5155 section 7.1).
+    #[error("no name of the zone has this hash")]
+    IdleNsec3,
+    /// The owner name has an NSEC3 record, and so is no name of the zone (RFC 5155 section 7.2.8).
+    #[error("a record beside an NSEC3 record")]
+    BesideNsec3,
+    /// The owner name or an empty name above it has no NSEC3 record, and opt-out does not allow that (RFC 5155
+    /// section 7.1).
+    #[error("the name, or an empty name above it, has no NSEC3 record")]
+    NoNsec3,
+    /// The NSEC3 record of the owner name or of an empty name above it lists a type of which the name has no records
+    /// (RFC 5155 section 3.1.8).
+    #[error("the NSEC3 record of the name, or of an empty name above it, lists a type that is not there")]
+    IdleType3,
+    /// The NSEC3 record of the owner name does not list the type of the record (RFC 5155 section 3.1.8).
+    #[error("the NSEC3 record of the name does not list the type")]
+    Unlisted3,
 }
 
 impl Kind {
@@ -137,7 +165,15 @@ impl Kind {
             | Kind::IdleType
             | Kind::Unlisted
             | Kind::Unsigned
-            | Kind::Ended => Severity::Fault,
+            | Kind::Ended
+            | Kind::UnreadNsec3
+            | Kind::OtherParameters
+            | Kind::OtherNextHash
+            | Kind::IdleNsec3
+            | Kind::BesideNsec3
+            | Kind::NoNsec3
+            | Kind::IdleType3
+            | Kind::Unlisted3 => Severity::Fault,
             Kind::Repeated
             | Kind::BelowCut
             | Kind::AtCut

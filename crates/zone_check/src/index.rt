@@ -161,7 +161,7 @@ fn is_wild_address(record: &Record) -> bool
 }
 
 /// The name above that of a record, in lower case.
-fn above_of(alloc: Global, record: &Record) -> Result<LowerName, AllocError>
+pub(crate) fn above_of(alloc: Global, record: &Record) -> Result<LowerName, AllocError>
     ensures { IfOk result (λ name. name ≡ ancestor (lower_name «record».now.name) 1) }
 {
     let mut name = LowerName::new(alloc, &record.name)?;

@@ -2,7 +2,7 @@
 
 ghost use Rattle.std.specs.Prelude.{List, length};
 ghost use Rattle.std.specs.List.{Contains};
-ghost use Rattle.zone_check.specs.ChainedZones.{FaultlessZonesAreChained};
+ghost use Rattle.zone_check.specs.ChainedZones.{FaultlessZonesAreChained, FaultlessZonesAreHashed};
 ghost use Rattle.zone_check.specs.CheckedZones.{CheckedZone};
 ghost use Rattle.zone_check.specs.Findings.{AreFindings, Holds, all_findings};
 ghost use Rattle.zone_check.specs.declared.finding.Finding.{Finding as FindingOf};
@@ -16,8 +16,14 @@ pub fn findings_hold()
         Contains findings finding }
 {}
 
-/// A signed zone without NSEC3 parameters has a complete chain of NSEC records, if nothing of seven kinds is found of its
-/// records.
+/// A signed zone without NSEC3 parameters has a complete chain of NSEC records, if nothing of seven kinds is found of
+/// its records.
 pub fn faultless_zones_are_chained()
     ensures { FaultlessZonesAreChained }
+{}
+
+/// A signed zone with NSEC3 parameters has a complete chain of NSEC3 records, if nothing of ten kinds is found of its
+/// records.
+pub fn faultless_zones_are_hashed()
+    ensures { FaultlessZonesAreHashed }
 {}

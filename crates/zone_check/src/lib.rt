@@ -2,6 +2,8 @@
 #![tactic(auto)]
 
 mod finding;
+mod hashed;
+mod hashes;
 mod hosts;
 mod index;
 pub mod laws;

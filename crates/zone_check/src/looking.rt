@@ -3,10 +3,11 @@
 ghost use Rattle.std.specs.Prelude.{◌≡◌, ◌↔◌, ◌++◌, ◌∷◌, [], List, IfOk, IsTrue, OnOk, Some, length, map};
 ghost use Rattle.std.specs.List.{slice_get};
 ghost use Rattle.zone_check.specs.CheckedZones.{Owns, checked_zone};
-ghost use Rattle.zone_check.specs.Findings.{AreFindings, Holds, IsFoundOf, IsFoundOfAny, IsFoundOfZone, Selects, at_place, is_for_signed, of_whole};
+ghost use Rattle.zone_check.specs.Findings.{AreFindings, Holds, IsFoundOf, IsFoundOfAny, IsFoundOfZone, Selects, at_place, is_for_hashed, is_for_signed, of_whole};
 ghost use Rattle.zone_check.specs.declared.finding.Finding.{Finding as FindingOf};
 
 use crate::finding::{Finding, Kind};
+use crate::hashed::is_of_hashed;
 use crate::hosts::{has_aliased_host, has_no_address, has_no_glue, is_idle_glue};
 use crate::names::{
     covers_nothing, has_other_ttl, is_cname_beside_data, is_data_at_cut, is_data_below_cut,
@@ -97,6 +98,23 @@ fn is_for_signed(kind: Kind) -> bool
         Kind::Ended => true,
         Kind::EndsSoon => true,
         Kind::Iterations => true,
+        Kind::UnreadNsec3 => true,
+        _ => false,
+    }
+}
+
+/// Whether only zones whose names are hashed have findings of this kind.
+fn is_for_hashed(kind: Kind) -> bool
+    ensures { result ≡ is_for_hashed kind }
+{
+    match kind {
+        Kind::OtherParameters => true,
+        Kind::OtherNextHash => true,
+        Kind::IdleNsec3 => true,
+        Kind::BesideNsec3 => true,
+        Kind::NoNsec3 => true,
+        Kind::IdleType3 => true,
+        Kind::Unlisted3 => true,
         _ => false,
     }
 }
@@ -112,6 +130,9 @@ fn is_of_record(
     requires { slice_get zone.now.records place ≡ Some «record».now }
     ensures { IfOk result (λ is. IsTrue is ↔ IsFoundOf kind zone.now place «record».now) }
 {
+    if is_for_hashed(kind) {
+        return is_of_hashed(alloc, zone, record, kind);
+    }
     if is_for_signed(kind) {
         return is_of_signed(alloc, zone, record, kind);
     }
@@ -150,7 +171,7 @@ fn look_for(
 }
 
 /// All kinds of findings of a record, in the order in which they are told.
-const KINDS: [Kind; 30] = [
+const KINDS: [Kind; 38] = [
     Kind::Outside,
     Kind::SoaBelowApex,
     Kind::Second,
@@ -181,6 +202,14 @@ const KINDS: [Kind; 30] = [
     Kind::Ended,
     Kind::EndsSoon,
     Kind::Iterations,
+    Kind::UnreadNsec3,
+    Kind::OtherParameters,
+    Kind::OtherNextHash,
+    Kind::IdleNsec3,
+    Kind::BesideNsec3,
+    Kind::NoNsec3,
+    Kind::IdleType3,
+    Kind::Unlisted3,
 ];
 
 /// Puts what is found of the record at a place behind other findings, by these kinds.

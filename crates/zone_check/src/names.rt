@@ -1,6 +1,6 @@
 //! What is asked of a record's name, type and TTL.
 
-ghost use Rattle.std.specs.Prelude.{◌≡◌, ◌↔◌, IfOk, IsTrue};
+ghost use Rattle.std.specs.Prelude.{◌≡◌, ◌≢◌, ◌↔◌, IfOk, IsTrue};
 ghost use Rattle.wire_messages.specs.rr.RecordSameness.{SameData};
 ghost use Rattle.zone_check.specs.Findings.{CoversNothing, HasOtherTtl, IsCnameBesideData, IsDataAtCut, IsDataBelowCut, IsDsAtApex, IsNsec3paramBelowApex, IsOutside, IsSecond, IsSingle, IsSoaBelowApex, OfFirst, is_cut_type};
 
@@ -130,6 +130,20 @@ pub(crate) fn is_data_at_cut(
     Ok(is_cut)
 }
 
+/// Whether its TTL is another than that of the first record of its name and type.
+fn has_other_ttl_than_first(
+    alloc: Global,
+    zone: &Subject<'_>,
+    record: &Record,
+) -> Result<bool, AllocError>
+    ensures { IfOk result (λ is. IsTrue is ↔ OfFirst (λ first. first.ttl ≢ «record».now.ttl) zone.now «record».now) }
+{
+    match zone.first_of(alloc, &record.name, record.rdata.record_type())? {
+        Some(first) => Ok(first.ttl != record.ttl),
+        None => Ok(false),
+    }
+}
+
 /// Whether its TTL is another than that of the first record of its RRset.
 pub(crate) fn has_other_ttl(
     alloc: Global,
@@ -138,10 +152,11 @@ pub(crate) fn has_other_ttl(
 ) -> Result<bool, AllocError>
     ensures { IfOk result (λ is. IsTrue is ↔ HasOtherTtl zone.now «record».now) }
 {
-    match zone.first_of(alloc, &record.name, record.rdata.record_type())? {
-        Some(first) => Ok(first.ttl != record.ttl),
-        None => Ok(false),
+    if record.rdata.record_type() == RecordType::RRSIG {
+        return Ok(false);
     }
+    let differs = has_other_ttl_than_first(alloc, zone, record)?;
+    Ok(differs)
 }
 
 /// Whether it is a DS record at the apex.

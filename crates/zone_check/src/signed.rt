@@ -6,7 +6,8 @@ ghost use Rattle.zone_check.specs.Findings.{IsFoundIfSigned, IsFoundOfSigned};
 ghost use Rattle.zone_check.specs.SignedZones.{EndsSoon, HasEnded, HasIdleType, HasIterations, HasOtherNext, IsIdleType, IsListed, IsNext, IsOfZone, IsToSign, IsUnlisted, IsUnreadNsec, IsUnsigned, LacksNsec, ListsIdleType, OfTimes, is_type_at_cut, nsec_at};
 
 use crate::finding::Kind;
-use crate::octets::{expiration_of, iterations_of, nsec_of};
+use crate::hashed::is_unread_nsec3;
+use crate::octets::{expiration_of, nsec_of, parameters_of};
 use crate::starts::is_above;
 use crate::subject::Subject;
 use std::alloc::{AllocError, Global};
@@ -17,7 +18,7 @@ use wire_names::rr::domain::name::Name;
 use zone_denials::nsec::NsecData;
 
 /// Whether a name is in the zone, and neither below a cut nor below a DNAME.
-fn is_of_zone(alloc: Global, zone: &Subject<'_>, name: &Name) -> Result<bool, AllocError>
+pub(crate) fn is_of_zone(alloc: Global, zone: &Subject<'_>, name: &Name) -> Result<bool, AllocError>
     ensures { IfOk result (λ is. IsTrue is ↔ IsOfZone zone.now name.now) }
 {
     if !zone.is_in_zone(name) || zone.is_below_cut(alloc, name)? {
@@ -87,7 +88,7 @@ fn is_type_at_cut(record_type: RecordType) -> bool
 }
 
 /// Whether records of the type at a name are in its NSEC record.
-fn is_listed(
+pub(crate) fn is_listed(
     alloc: Global,
     zone: &Subject<'_>,
     name: &Name,
@@ -119,7 +120,7 @@ fn is_idle_type(
 }
 
 /// Whether the zone has no records of one of these types at a name.
-fn has_idle_type(
+pub(crate) fn has_idle_type(
     alloc: Global,
     zone: &Subject<'_>,
     name: &Name,
@@ -237,8 +238,8 @@ fn ends_soon(zone: &Subject<'_>, record: &Record) -> bool
 fn has_iterations(record: &Record) -> bool
     ensures { IsTrue result ↔ HasIterations «record».now.rdata }
 {
-    match iterations_of(record) {
-        Some(count) => 0 < count,
+    match parameters_of(record, RecordType::NSEC3PARAM) {
+        Some(by) => 0 < by.iterations,
         None => false,
     }
 }
@@ -262,6 +263,7 @@ fn is_if_signed(
         Kind::Ended => Ok(has_ended(zone, record)),
         Kind::EndsSoon => Ok(ends_soon(zone, record)),
         Kind::Iterations => Ok(has_iterations(record)),
+        Kind::UnreadNsec3 => is_unread_nsec3(alloc, zone, record),
         _ => Ok(false),
     }
 }

@@ -1,16 +1,20 @@
 //! The zone that is checked, with its records found by name.
 
-ghost use Rattle.std.specs.Prelude.{◌≡◌, ◌↔◌, ◌<◌, Some, IfOk, IsTrue, MatchOption, length};
+ghost use Rattle.std.specs.Prelude.{◌≡◌, ◌↔◌, ◌<◌, Some, IfOk, IsSome, IsTrue, List, MatchOption, length, ℕ};
 ghost use Rattle.std.specs.List.{find, slice_get};
-ghost use Rattle.std.specs.Option.{option_copied};
+ghost use Rattle.std.specs.Option.{option_copied, option_map};
 ghost use Rattle.wire_names.specs.rr.domain.DomainName.{DomainName};
 ghost use Rattle.wire_names.specs.rr.domain.NameOrder.{lower_name};
 ghost use Rattle.zone_check.specs.CheckedZones.{HasWildAddress, IsApex, IsBelowApex, IsBelowCut, IsBelowDname, IsBelowWildcard, IsCut, IsDnameOwner, IsInZone, IsServer, Owns, OwnsAddress, OwnsData, checked_zone, first_of, is_data_of, is_server_of, is_wild_address_of};
 ghost use Rattle.wire_messages.specs.declared.rr.rdata.RData.{RData as RecordData};
 ghost use Rattle.wire_messages.specs.declared.rr.record.Record.{Record as RecordOf};
 ghost use Rattle.zone_check.specs.Findings.{IsRepeated};
+ghost use Rattle.zone_check.specs.HashedZones.{HasHash, IsEarlierHash, IsFirst, IsLast, IsLaterHash, IsOfName, first_with, hashing_of, is_at};
 ghost use Rattle.zone_check.specs.SignedZones.{IsCovered, IsFirstLater, IsLaterOwner, is_signature_of};
+ghost use Rattle.zone_denials.specs.Nsec3.{Hashing};
+ghost use Rattle.zone_denials.specs.Nsec3Data.{hashing_by};
 
+use crate::hashes::{self, Named};
 use crate::index;
 use std::alloc::{AllocError, Global};
 use std::collections::BTreeMap;
@@ -20,6 +24,7 @@ use wire_messages::rr::record_type::RecordType;
 use wire_messages::rr::rr_key::RrKey;
 use wire_names::rr::domain::lower_name::LowerName;
 use wire_names::rr::domain::name::Name;
+use zone_denials::nsec3_data::Parameters;
 
 /// The zone that is checked, with its records found by name.
 #[derive(Drop)]
@@ -42,11 +47,22 @@ pub(crate) struct Subject<'z> {
     nsecs: BTreeMap<LowerName, usize>,
     // The place of the first signature over records of each name and type.
     signatures: BTreeMap<RrKey, usize>,
+    // The place of the first record of each name.
+    owners: BTreeMap<LowerName, usize>,
+    // The parameters by which names are hashed, if the zone has them.
+    hashing: Option<Parameters<'z>>,
+    // The place of the first NSEC3 record of each hash.
+    hashes: BTreeMap<[u8; 20], usize>,
+    // The hashes of all names that exist, if the zone has parameters.
+    names: BTreeMap<[u8; 20], usize>,
 }
 
 impl<'z> Model for Subject<'z> {
     ghost use Rattle.zone_check.specs.CheckedZones.{CheckedZone};
-    ghost use Rattle.zone_check.specs.Indexes.{HasData, HasEarlier, HasFirsts, HasNsecs, HasServers, HasSignatures, HasWilds};
+    ghost use Rattle.zone_check.specs.Indexes.{HasAllNames, HasData, HasEarlier, HasFirsts, HasHashes, HasNsecs, HasOwners, HasServers, HasSignatures, HasWilds, hashing_in};
+    ghost use Rattle.std.specs.Prelude.{◌≡◌};
+    ghost use Rattle.std.specs.Option.{option_map};
+    ghost use Rattle.zone_denials.specs.Nsec3Data.{hashing_by};
 
     ghost Value = { CheckedZone };
 
@@ -55,7 +71,9 @@ impl<'z> Model for Subject<'z> {
     ghost invariant = { λ s. HasFirsts s.records.now s.records.now s.firsts ×
         HasData s.records.now s.records.now s.others × HasWilds s.records.now s.records.now s.wilds ×
         HasServers s.records.now s.records.now s.servers × HasEarlier s.records.now s.earlier.items ×
-        HasNsecs s.records.now s.nsecs × HasSignatures s.records.now s.records.now s.signatures };
+        HasNsecs s.records.now s.nsecs × HasSignatures s.records.now s.records.now s.signatures ×
+        HasOwners s.records.now s.owners × (option_map hashing_by s.hashing ≡ hashing_in s.origin s.records.now) ×
+        HasHashes s.origin s.records.now s.records.now s.hashes × HasAllNames s.origin s.records.now s.names };
 }
 
 impl<'z> Subject<'z> {
@@ -71,18 +89,31 @@ impl<'z> Subject<'z> {
     {
         let mut apex = origin.clone()?;
         apex.set_fqdn(true);
+        let firsts = index::firsts_of(alloc, records)?;
+        let hashing = hashes::hashing_of(alloc, &apex, records, &firsts)?;
+        let named = Named {
+            origin: &apex,
+            records,
+            firsts: &firsts,
+        };
+        let names = hashes::names_of(alloc, &named, &hashing)?;
+        let hashes = hashes::hashes_of(alloc, &apex, records)?;
         Ok(Subject {
             origin: apex,
             records,
             previous,
             time,
-            firsts: index::firsts_of(alloc, records)?,
+            firsts,
             others: index::data_of(alloc, records)?,
             wilds: index::wilds_of(alloc, records)?,
             servers: index::servers_of(alloc, records)?,
             earlier: index::earlier_of(alloc, records)?,
             nsecs: index::nsecs_of(alloc, records)?,
             signatures: index::signatures_of(alloc, records)?,
+            owners: hashes::owners_of(alloc, records)?,
+            hashing,
+            hashes,
+            names,
         })
     }
 
@@ -207,6 +238,67 @@ impl<'z> Subject<'z> {
             (IsFirstLater self.now.records name) }
     {
         index::later_owner(&self.nsecs, name)
+    }
+
+    /// The parameters by which names are hashed, if the zone has them.
+    pub(crate) fn hashing(&self) -> Option<Parameters<'_>>
+        ensures { option_map hashing_by result ≡ hashing_of self.now }
+    {
+        self.hashing
+    }
+
+    /// The first NSEC3 record of a hash.
+    pub(crate) fn first_with(&self, hash: &[u8; 20]) -> Option<&Record>
+        ensures { option_copied result ≡ first_with self.now hash.now }
+    {
+        hashes::first_with(self.records, &self.hashes, hash)
+    }
+
+    /// The first hash of an NSEC3 record after a hash.
+    pub(crate) fn later_hash(&self, hash: &[u8; 20]) -> Option<&[u8; 20]>
+        ensures { MatchOption (option_copied result) ((other : List ℕ) → ¬ (IsLaterHash self.now hash.now other))
+            (IsFirst (IsLaterHash self.now hash.now)) }
+    {
+        hashes::later_hash(&self.hashes, hash)
+    }
+
+    /// The first hash of all NSEC3 records.
+    pub(crate) fn first_hash(&self) -> Option<&[u8; 20]>
+        ensures { MatchOption (option_copied result) ((other : List ℕ) → ¬ (HasHash self.now other))
+            (IsFirst (HasHash self.now)) }
+    {
+        hashes::first_hash(&self.hashes)
+    }
+
+    /// The last hash of an NSEC3 record before a hash.
+    pub(crate) fn earlier_hash(&self, hash: &[u8; 20]) -> Option<&[u8; 20]>
+        ensures { MatchOption (option_copied result) ((other : List ℕ) → ¬ (IsEarlierHash self.now hash.now other))
+            (IsLast (IsEarlierHash self.now hash.now)) }
+    {
+        hashes::earlier_hash(&self.hashes, hash)
+    }
+
+    /// The last hash of all NSEC3 records.
+    pub(crate) fn last_hash(&self) -> Option<&[u8; 20]>
+        ensures { MatchOption (option_copied result) ((other : List ℕ) → ¬ (HasHash self.now other))
+            (IsLast (HasHash self.now)) }
+    {
+        hashes::last_hash(&self.hashes)
+    }
+
+    /// Whether a hash is that of a name that exists, if the zone has parameters.
+    pub(crate) fn has_name_with(&self, hash: &[u8; 20]) -> bool
+        ensures { (by : Hashing) → hashing_of self.now ≡ Some by →
+            (IsTrue result ↔ IsOfName self.now.origin self.now.records by self.now.records hash.now) }
+    {
+        self.names.contains_key(hash)
+    }
+
+    /// Whether there is no record of a name in lower case.
+    pub(crate) fn is_no_owner(&self, name: &LowerName) -> bool
+        ensures { IsTrue result ↔ (¬ (IsSome (find (is_at name.now) self.now.records))) }
+    {
+        hashes::is_no_owner(&self.owners, name)
     }
 
     /// The first record of a name in lower case that may not stand beside a CNAME.

@@ -1,3 +1,4 @@
+pub mod HashLabels
 pub mod Nsec
 pub mod Nsec3
 pub mod Nsec3Chain
@@ -12,4 +13,5 @@ pub mod SignedZone
 pub mod SignedZone3
 pub mod SignedZoneLaws
 pub mod TypeBits
+pub mod WorkedDenials
 pub mod WorkedSignedZone

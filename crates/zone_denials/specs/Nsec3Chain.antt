@@ -2,7 +2,7 @@
 use Rattle.std.specs.Prelude.{◌≡◌, ◌∷◌, ◌++◌, ℕ, List, []}
 use Rattle.std.specs.List.{AllByRecursion, Contains}
 use Rattle.wire_names.specs.rr.domain.DomainName.{DomainName}
-use Rattle.zone_denials.specs.Nsec3.{Hashing, IsBelow, Nsec3, IsOpen3, hash_of}
+use Rattle.zone_denials.specs.Nsec3.{Hashing, IsBelow, Nsec3, hash_of}
 
 -- the hash of the first of these records, or else this one
 abbrev pub next_hash : List ℕ → List Nsec3 → List ℕ

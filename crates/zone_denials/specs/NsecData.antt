@@ -1,6 +1,6 @@
 -- The data of an NSEC record as octets (RFC 4034 section 4.1): the next owner name, which is not compressed, and the type
 -- bit map.
-use Rattle.std.specs.Prelude.{ℕ, List, Option, Some, None, drop, Ok, Err}
+use Rattle.std.specs.Prelude.{ℕ, List, Option, None, drop, Ok, Err}
 use Rattle.std.specs.Option.{option_map}
 use Rattle.wire_names.specs.rr.domain.DomainName.{DomainName}
 use Rattle.wire_messages.specs.serialize.reading.NameReading.{name}

@@ -1,8 +1,7 @@
 -- The chain among the keys of a zone, which are in canonical order.
-use Rattle.std.specs.Prelude.{◌≡◌, ◌==◌, ◌∷◌, ◌++◌, ℕ, List, [], true, false, cond}
+use Rattle.std.specs.Prelude.{◌≡◌, ◌==◌, ◌∷◌, ◌++◌, List, [], true, false, cond}
 use Rattle.std.specs.List.{AllByRecursion}
 use Rattle.std.specs.declared.cmp.Ordering.TheVariants.{Less}
-use Rattle.wire_names.specs.rr.domain.DomainName.{DomainName}
 use Rattle.wire_messages.specs.Numbers.{type_nsec}
 use Rattle.wire_messages.specs.rr.RrKeys.{key_cmp}
 use Rattle.wire_messages.specs.declared.rr.rr_key.RrKey.{RrKey}

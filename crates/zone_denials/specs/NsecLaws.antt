@@ -1,9 +1,10 @@
 -- What a server puts into a reply of a chain is a proof.
-use Rattle.std.specs.Prelude.{◌≡◌, ◌<◌, ℕ, List, drop, true}
+use Rattle.std.specs.Prelude.{◌≡◌, ◌<◌, ◌⊎◌, ℕ, List, drop, true}
 use Rattle.std.specs.List.{Contains}
 use Rattle.wire_names.specs.rr.domain.DomainName.{DomainName}
 use Rattle.wire_names.specs.rr.domain.NameOrder.{SameName}
-use Rattle.zone_denials.specs.Nsec.{Nsec, Proves, ancestor, by_wildcard, no_name, no_type, wildcard}
+use Rattle.wire_messages.specs.Numbers.{type_cname, type_ds}
+use Rattle.zone_denials.specs.Nsec.{IsAtCut, Nsec, Proves, ancestor, by_wildcard, no_name, no_type, unsigned, wildcard}
 use Rattle.zone_denials.specs.NsecChain.{IsChain, IsLastBefore, IsNamed, AreOpenAbove}
 
 -- The chain has the name of the k-th ancestor, and of no closer one.
@@ -31,3 +32,38 @@ EmptyNamesAreDenied = (apex : DomainName) (chain shown : List Nsec) (name : Doma
 abbrev pub DeniedNamesAreMissing : Type 0
 DeniedNamesAreMissing = (apex : DomainName) (chain shown : List Nsec) (name : DomainName) → IsChain apex chain → name.is_fqdn ≡ true → ((n : Nsec) → Contains shown n → Contains chain n)
     → Proves apex shown name no_name → (k : ℕ) × ¬ (IsNamed chain name.labels) × IsEncloser chain name k × ¬ (IsNamed chain (wildcard (ancestor name k)).labels)
+
+-- The chain has not the name, and its k-th ancestor is the closest encloser.
+pub record IsByWildcard (chain : List Nsec) (name : DomainName) (k : ℕ) : Type 0 where
+  pub missing : ¬ (IsNamed chain name.labels)
+  pub encloser : IsEncloser chain name k
+
+-- The name of a record of the chain does not have the type, nor an alias.
+pub record IsWithout (chain : List Nsec) (name : DomainName) (t : ℕ) : Type 0 where
+  pub at : Nsec
+  pub held : Contains chain at
+  pub is : SameName at.owner name
+  pub none : ¬ (Contains at.types t)
+  pub no_alias : ¬ (Contains at.types type_cname)
+
+-- The chain has a name below, and no record at the name.
+pub record IsEmptyName (chain : List Nsec) (name : DomainName) : Type 0 where
+  pub named : IsNamed chain name.labels
+  pub no_owner : (m : Nsec) → Contains chain m → ¬ (SameName m.owner name)
+
+abbrev pub LacksIn : List Nsec → DomainName → ℕ → Type 0
+LacksIn chain name t = IsWithout chain name t ⊎ IsEmptyName chain name
+
+-- The same of what else a resolver takes for proved: a synthesized name is missing, a denied type is missing at the name or
+-- at its wildcard, and a zone that is not signed has servers and no DS records.
+abbrev pub WildcardsAreTrue : Type 0
+WildcardsAreTrue = (apex : DomainName) (chain shown : List Nsec) (name : DomainName) (k : ℕ) → IsChain apex chain → name.is_fqdn ≡ true → ((n : Nsec) → Contains shown n → Contains chain n)
+    → Proves apex shown name (by_wildcard k) → IsByWildcard chain name k
+
+abbrev pub DeniedTypesAreMissing : Type 0
+DeniedTypesAreMissing = (apex : DomainName) (chain shown : List Nsec) (name : DomainName) (t : ℕ) → IsChain apex chain → name.is_fqdn ≡ true → ((n : Nsec) → Contains shown n → Contains chain n)
+    → Proves apex shown name (no_type t) → LacksIn chain name t ⊎ ((k : ℕ) × IsByWildcard chain name k × LacksIn chain (wildcard (ancestor name k)) t)
+
+abbrev pub UnsignedZonesAreCuts : Type 0
+UnsignedZonesAreCuts = (apex : DomainName) (chain shown : List Nsec) (name : DomainName) → ((n : Nsec) → Contains shown n → Contains chain n) → Proves apex shown name unsigned
+    → (n : Nsec) × Contains chain n × SameName n.owner name × IsAtCut n × ¬ (Contains n.types type_ds)

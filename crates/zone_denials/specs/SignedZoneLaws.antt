@@ -1,10 +1,9 @@
 -- What a server puts into a reply of a signed zone is a proof, for every zone whose chain is complete.
-use Rattle.std.specs.Prelude.{◌≡◌, ◌<◌, ◌⊎◌, ℕ, List, true}
+use Rattle.std.specs.Prelude.{◌≡◌, ◌⊎◌, ℕ, List, true}
 use Rattle.std.specs.List.{Contains}
 use Rattle.wire_names.specs.rr.domain.DomainName.{DomainName}
 use Rattle.wire_names.specs.rr.domain.NameOrder.{SameName}
 use Rattle.wire_messages.specs.Numbers.{type_cname, type_ds}
-use Rattle.wire_messages.specs.declared.rr.rr_key.RrKey.{RrKey}
 use Rattle.zone_denials.specs.Nsec.{Nsec, Proves, ancestor, by_wildcard, no_name, no_type, unsigned, wildcard}
 use Rattle.zone_denials.specs.NsecChain.{IsLastBefore}
 use Rattle.zone_denials.specs.SignedZone.{Exists, HasClosestEncloser, HasSet, IsChained, IsCut, IsOwn, ZoneKeys}

@@ -1,12 +1,13 @@
 //! Laws of the definitions, each the contract of a function with nothing to do.
 
 ghost use Rattle.zone_denials.specs.NsecKeys.{LastNsecIsLast};
-ghost use Rattle.zone_denials.specs.NsecLaws.{DeniedNamesAreMissing, EmptyNamesAreDenied, MissingNamesAreDenied, WildcardsAreShown};
-ghost use Rattle.zone_denials.specs.Nsec3Laws.{MissingNamesAreDenied3, UnsignedZonesAreShown3, WildTypesAreDenied3, WildcardsAreShown3};
+ghost use Rattle.zone_denials.specs.NsecLaws.{DeniedNamesAreMissing, DeniedTypesAreMissing, EmptyNamesAreDenied, MissingNamesAreDenied, UnsignedZonesAreCuts, WildcardsAreShown, WildcardsAreTrue};
+ghost use Rattle.zone_denials.specs.Nsec3Laws.{DeniedNamesAreMissing3, DeniedTypesAreMissing3, MissingNamesAreDenied3, UnsignedZonesAreCuts3, UnsignedZonesAreShown3, WildTypesAreDenied3, WildcardsAreShown3, WildcardsAreTrue3};
 ghost use Rattle.zone_denials.specs.SignedZone3.{CutsAreProved3, CutsLeftOutAreProved3, NamesAreDenied3, TypesAreDenied3, WildTypesAreDenied3 as WildTypesAreDeniedBy3, WildcardsAreProved3};
 ghost use Rattle.zone_denials.specs.SignedZoneLaws.{CutsAreProved, EmptyNamesAreProved, NamesAreDenied, OwnersAreLinked, TypesAreDenied, WildTypesAreDenied, WildcardsAreProved};
 ghost use Rattle.zone_denials.specs.TypeBits.{WorkedTypes};
-ghost use Rattle.zone_denials.specs.WorkedSignedZone.{SmallZoneIsChained};
+ghost use Rattle.zone_denials.specs.WorkedDenials.{EmptyNoData3, NameError, NameError3, NoData, NoData3, UnsignedZone, UnsignedZone3, WildcardExpansion, WildcardExpansion3, WildcardNoData, WildcardNoData3};
+ghost use Rattle.zone_denials.specs.WorkedSignedZone.{HashedZoneIsChained, SmallZoneIsChained};
 
 /// What a server puts into a reply of a chain of NSEC records is a proof.
 pub fn nsec_denials()
@@ -17,7 +18,18 @@ pub fn nsec_denials()
 
 /// What a resolver takes for proved by records of a chain is so.
 pub fn nsec_truth()
-    ensures { DeniedNamesAreMissing }
+    ensures names { DeniedNamesAreMissing }
+    ensures wildcards { WildcardsAreTrue }
+    ensures types { DeniedTypesAreMissing }
+    ensures cuts { UnsignedZonesAreCuts }
+{}
+
+/// What a resolver takes for proved by NSEC3 records of a chain is so.
+pub fn nsec3_truth()
+    ensures names { DeniedNamesAreMissing3 }
+    ensures wildcards { WildcardsAreTrue3 }
+    ensures types { DeniedTypesAreMissing3 }
+    ensures cuts { UnsignedZonesAreCuts3 }
 {}
 
 /// What a server puts into a reply of a chain of NSEC3 records is a proof.
@@ -59,7 +71,27 @@ pub fn worked_types()
     ensures { WorkedTypes }
 {}
 
-/// The small zone is chained: a zone can be.
+/// The small zones are chained: a zone can be.
 pub fn worked_signed_zone()
-    ensures { SmallZoneIsChained }
+    ensures nsec { SmallZoneIsChained }
+    ensures nsec3 { HashedZoneIsChained }
+{}
+
+/// The records of the replies of RFC 4035 appendix B are proofs.
+pub fn worked_denials()
+    ensures name_error { NameError }
+    ensures no_data { NoData }
+    ensures unsigned { UnsignedZone }
+    ensures expansion { WildcardExpansion }
+    ensures wild_no_data { WildcardNoData }
+{}
+
+/// The records of the replies of RFC 5155 appendix B are proofs, if SHA-1 gives the hashes of its appendix A.
+pub fn worked_denials3()
+    ensures name_error { NameError3 }
+    ensures no_data { NoData3 }
+    ensures empty { EmptyNoData3 }
+    ensures unsigned { UnsignedZone3 }
+    ensures expansion { WildcardExpansion3 }
+    ensures wild_no_data { WildcardNoData3 }
 {}

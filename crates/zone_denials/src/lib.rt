@@ -2,8 +2,10 @@
 //! reply needs, and that these prove what the reply says.
 #![tactic(auto)]
 
+pub mod hash_labels;
 pub mod laws;
 pub mod nsec;
 pub mod nsec3;
+pub mod nsec3_data;
 pub mod rrsig;
 pub mod type_bits;

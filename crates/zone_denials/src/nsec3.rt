@@ -1,9 +1,8 @@
-//! NSEC3 records and their hashes (RFC 5155).
+//! The hashes of names (RFC 5155 section 5).
 
 ghost use Rattle.std.specs.Prelude.{◌≡◌, ◌++◌};
 ghost use Rattle.sha1.specs.Sha1.{sha1};
 ghost use Rattle.zone_denials.specs.Nsec3.{hash_of};
-ghost use Rattle.zone_denials.specs.Nsec3Data.{iterations_in};
 
 use sha1::Sha1;
 use wire_names::rr::domain::lower_name::LowerName;
@@ -38,15 +37,4 @@ pub fn hash(name: &LowerName, salt: &[u8], iterations: u16) -> [u8; 20]
         digest = hashed(&digest, salt);
     }
     digest
-}
-
-/// The number of iterations in the data of an NSEC3 or NSEC3PARAM record, if the octets have one (RFC 5155 sections 3.2
-/// and 4.2).
-pub fn iterations(octets: &[u8]) -> Option<u16>
-    ensures { result ≡ iterations_in octets.now }
-{
-    match octets {
-        [_, _, high, low, ..] => Some(u16::from(*high) * 256 + u16::from(*low)),
-        _ => None,
-    }
 }

@@ -1,18 +1,20 @@
 -- The last record of a chain below a hash covers it.
-use Rattle.std.proofs.Common.{◌≡◌, ℕ, suc, true, false, List, [], ◌∷◌, ◌++◌, length, inl, inr, refl, sym, ap, subst, ◌∙◌, arith}
+use Rattle.std.proofs.Common.{◌≡◌, ℕ, suc, List, [], ◌∷◌, ◌++◌, inl, inr, refl, sym, ap, subst, ◌∙◌, arith}
 use Rattle.std.specs.Prelude.{◌⊎◌}
 use Rattle.std.specs.List.{AllByRecursion, Contains}
 use Rattle.std.specs.declared.cmp.Ordering.{Ordering}
 use Rattle.std.specs.declared.cmp.Ordering.TheVariants.{Less, Equal, Greater}
-use Rattle.std.specs.Ordering.{is_gt, nat_cmp, ordering_reverse}
+use Rattle.std.specs.Ordering.{nat_cmp, ordering_reverse}
 use Rattle.std.specs.Cmp.{tied_itself}
 use Rattle.std.specs.Cmp.Lexicographic.{slice_cmp, nat_list_cmp_total}
 use Rattle.std.proofs.lemmas.List.Elements.{Contains-append_right}
 use Rattle.std.proofs.lemmas.Map.Lookups.{exact_bytes}
-use Rattle.wire_names.specs.rr.domain.DomainName.{DomainName}
+use Rattle.sha1.specs.Sha1.{sha1}
+use Rattle.wire_names.specs.rr.domain.DomainName.{DomainName, wire_form}
+use Rattle.wire_names.specs.rr.domain.NameOrder.{lower_labels}
 use Rattle.zone_denials.proofs.lemmas.Members.{head_or_in}
 use Rattle.zone_denials.specs.Nsec.{ancestor, wildcard}
-use Rattle.zone_denials.specs.Nsec3.{CoversHash, Hashing, IsBelow, Nsec3, Proves3, ShowsEncloser3, closest, hash_of, lacking_out, missing, out, wild_lacking}
+use Rattle.zone_denials.specs.Nsec3.{CoversHash, Hashing, IsBelow, Nsec3, ShowsEncloser3, closest, hash_of, hashed_again, lacking_out, missing, out, wild_lacking}
 use Rattle.zone_denials.specs.Nsec3Chain.{AreAscending3, AreLinked3, IsChain3, IsHashed, IsLastBelow, around, below, next_hash}
 use Rattle.zone_denials.specs.Nsec3Laws.{CoversNextCloser, MatchesEncloser, MissingNamesAreDenied3, UnsignedZonesAreShown3, WildTypesAreDenied3, WildcardsAreShown3}
 
@@ -26,29 +28,29 @@ above other hash not_below differs = by_order (hash_cmp other hash) refl where
   by_order Equal e = absurd (differs (exact_bytes other hash e))
   by_order Greater e = nat_list_cmp_total.antisymm hash other ∙ ap ordering_reverse e
 
-less_once : (a b : List ℕ) → IsBelow a b → IsBelow b a → ⊥
+pub less_once : (a b : List ℕ) → IsBelow a b → IsBelow b a → ⊥
 less_once a b h k = by_order (hash_cmp b a) (ap ordering_reverse h) (nat_list_cmp_total.antisymm b a) k where
   by_order : (o : Ordering) → ordering_reverse (hash_cmp a b) ≡ Greater → o ≡ ordering_reverse (hash_cmp a b) → o ≡ Less → ⊥
   by_order Less e f g = absurd (cc)
   by_order Equal e f g = absurd (cc)
   by_order Greater e f g = absurd (cc)
 
-not_itself : (a : List ℕ) → IsBelow a a → ⊥
+pub not_itself : (a : List ℕ) → IsBelow a a → ⊥
 not_itself a h = less_once a a h h
 
 head_in : (n : Nsec3) (ns : List Nsec3) → Contains (n ∷ ns) n
 head_in n ns = (0, omega arith, refl)
 
-linked_at : (first : List ℕ) (front : List Nsec3) (n : Nsec3) (rest : List Nsec3) → AreLinked3 first (front ++ n ∷ rest) → AreLinked3 first (n ∷ rest)
+pub linked_at : (first : List ℕ) (front : List Nsec3) (n : Nsec3) (rest : List Nsec3) → AreLinked3 first (front ++ n ∷ rest) → AreLinked3 first (n ∷ rest)
 linked_at first [] n rest h = h
 linked_at first (f ∷ front) n rest h = linked_at first front n rest h.1
 
-picked : (P : Nsec3 → Type 0) (front : List Nsec3) (n : Nsec3) (rest : List Nsec3) → AllByRecursion P (front ++ n ∷ rest) → P n
+pub picked : (P : Nsec3 → Type 0) (front : List Nsec3) (n : Nsec3) (rest : List Nsec3) → AllByRecursion P (front ++ n ∷ rest) → P n
 picked P [] n rest h = h.0
 picked P (f ∷ front) n rest h = picked P front n rest h.1
 
 -- the first hash is not above another one
-first_least : (front : List Nsec3) (n : Nsec3) (rest : List Nsec3) → AreAscending3 (front ++ n ∷ rest) → ¬ (IsBelow n.hash (next_hash [] (front ++ n ∷ rest)))
+pub first_least : (front : List Nsec3) (n : Nsec3) (rest : List Nsec3) → AreAscending3 (front ++ n ∷ rest) → ¬ (IsBelow n.hash (next_hash [] (front ++ n ∷ rest)))
 first_least [] n rest asc h = not_itself n.hash h
 first_least (f ∷ front) n rest asc h = less_once f.hash n.hash (picked (λ m. IsBelow f.hash m.hash) front n rest asc.0) h
 
@@ -97,6 +99,10 @@ same_or_not a b = by_order (hash_cmp a b) refl where
   by_order Less e = inr (λ s. let f : Less ≡ Equal = sym e ∙ tied s in absurd cc)
   by_order Equal e = inl (exact_bytes a b e)
   by_order Greater e = inr (λ s. let f : Greater ≡ Equal = sym e ∙ tied s in absurd cc)
+
+-- names with the same labels, letter case aside, have the same hash
+pub hash_alike : (by : Hashing) (a b : DomainName) → lower_labels a.labels ≡ lower_labels b.labels → hash_of by a ≡ hash_of by b
+hash_alike by a b e = ap (λ (ls : List (List ℕ)). hashed_again by.salt by.iterations (sha1 (wire_form ls ++ 0 ∷ by.salt))) e
 
 -- whether the chain has the hash of a name
 pub hashed_or : (by : Hashing) (chain : List Nsec3) (name : DomainName) → IsHashed by chain name ⊎ ¬ (IsHashed by chain name)

@@ -1,7 +1,7 @@
 -- What the last record of a chain before a name says of the name.
-use Rattle.std.proofs.Common.{◌≡◌, ℕ, ◌<◌, true, false, List, [], ◌∷◌, ◌++◌, drop, take, length, inl, inr, refl, sym, ap, subst, ◌∙◌, arith}
+use Rattle.std.proofs.Common.{◌≡◌, ℕ, true, false, List, [], ◌∷◌, ◌++◌, drop, take, inl, inr, refl, sym, ap, subst, ◌∙◌, arith}
 use Rattle.std.specs.Prelude.{◌⊎◌}
-use Rattle.std.specs.List.{All, AllByRecursion, Contains}
+use Rattle.std.specs.List.{AllByRecursion, Contains}
 use Rattle.std.specs.declared.cmp.Ordering.{Ordering}
 use Rattle.std.specs.declared.cmp.Ordering.TheVariants.{Less, Equal, Greater}
 use Rattle.std.specs.Ordering.{is_gt, ordering_reverse}
@@ -13,7 +13,7 @@ use Rattle.wire_names.specs.rr.domain.DomainName.{DomainName}
 use Rattle.wire_names.specs.rr.domain.NameOrder.{Encloses, SameName, lower_label, lower_labels, name_cmp, name_cmp_total}
 use Rattle.zone_denials.proofs.lemmas.Members.{head_or_in}
 use Rattle.zone_denials.proofs.lemmas.EnclosedBetween.{between, encloses_up_to, equal_of, same_back, same_of}
-use Rattle.zone_denials.specs.Nsec.{Covers, IsAboveEnd, IsBefore, Nsec, Proves, ShowsEmpty, ShowsEncloser, ShowsMissing, ancestor, closest, empty, missing, wildcard}
+use Rattle.zone_denials.specs.Nsec.{Covers, IsAboveEnd, IsBefore, Nsec, ShowsEmpty, ShowsEncloser, ShowsMissing, ancestor, closest, empty, missing, wildcard}
 use Rattle.zone_denials.specs.NsecChain.{AreAscending, AreLinked, IsChain, IsLastBefore, IsNamed, AreOpenAbove, next_owner}
 use Rattle.zone_denials.specs.NsecLaws.{EmptyNamesAreDenied, IsEncloser, MissingNamesAreDenied, WildcardsAreShown}
 

@@ -1,18 +1,17 @@
 -- A record of a chain that covers a name is the last one before it, so that what it shows is so.
-use Rattle.std.proofs.Common.{◌≡◌, ℕ, ◌<◌, true, false, List, [], ◌∷◌, ◌++◌, drop, inl, inr, refl, sym, ap, subst, ◌∙◌, arith}
+use Rattle.std.proofs.Common.{◌≡◌, ℕ, true, List, [], ◌∷◌, ◌++◌, drop, inl, inr, sym, ap, subst, ◌∙◌, arith}
 use Rattle.std.specs.Prelude.{◌⊎◌}
-use Rattle.std.specs.List.{All, AllByRecursion, Contains}
+use Rattle.std.specs.List.{AllByRecursion, Contains}
 use Rattle.std.specs.Ordering.{is_gt}
-use Rattle.std.specs.BTreeMap.Range.{IsLeBy}
-use Rattle.std.proofs.lemmas.List.Elements.{All-contains}
+use Rattle.std.proofs.lemmas.List.Elements.{All-contains, All-from_recursion, Contains-append_cases}
 use Rattle.wire_names.specs.rr.domain.DomainName.{DomainName}
-use Rattle.wire_names.specs.rr.domain.NameOrder.{Encloses, SameName, name_cmp, name_cmp_total}
+use Rattle.wire_names.specs.rr.domain.NameOrder.{SameName, name_cmp_total}
 use Rattle.zone_denials.proofs.lemmas.EnclosedBetween.{encloses_up_to, same_back, equal_of}
 use Rattle.zone_denials.proofs.lemmas.Members.{head_or_in}
-use Rattle.zone_denials.proofs.lemmas.NsecChains.{ascending_at, before_same, encloses_drop, linked_at, not_both, seen, unseen}
-use Rattle.zone_denials.specs.Nsec.{Covers, IsAboveEnd, IsBefore, Nsec, Proves, ShowsEncloser, ShowsMissing, ancestor, missing, no_name, wildcard}
+use Rattle.zone_denials.proofs.lemmas.NsecChains.{ascending_at, before_at, before_same, encloses_drop, linked_at, not_both, seen, unseen}
+use Rattle.zone_denials.specs.Nsec.{Covers, IsBefore, Nsec, ShowsEmpty, ShowsEncloser, ShowsLack, ShowsMissing, ancestor, closest, empty, insecure, lacking, missing, wild_empty, wild_lacking, wildcard}
 use Rattle.zone_denials.specs.NsecChain.{AreAscending, AreLinked, IsChain, IsLastBefore, IsNamed, next_owner}
-use Rattle.zone_denials.specs.NsecLaws.{DeniedNamesAreMissing, IsEncloser}
+use Rattle.zone_denials.specs.NsecLaws.{DeniedNamesAreMissing, DeniedTypesAreMissing, IsEmptyName, IsEncloser, IsWithout, LacksIn, UnsignedZonesAreCuts, WildcardsAreTrue}
 
 -- the place of a record in a list
 pub record Split (chain : List Nsec) (n : Nsec) : Type 0 where
@@ -86,3 +85,70 @@ denied_names_are_missing apex chain shown name is_chain qualified among (missing
   is_encloser apex name chain is_chain qualified n (among n put_n) shows_n k encloser,
   is_missing apex (wildcard (ancestor name k)) chain is_chain qualified m (among m put_m) shows_m,
 )
+
+pub wildcards_are_true : WildcardsAreTrue
+wildcards_are_true apex chain shown name _ is_chain qualified among (closest {n} {k} put shows encloser) = record {
+  missing = is_missing apex name chain is_chain qualified n (among n put) shows;
+  encloser = is_encloser apex name chain is_chain qualified n (among n put) shows k encloser;
+}
+
+-- a record of a chain that covers a name is not followed by one of the name
+module _ (apex name : DomainName) (chain : List Nsec) (is_chain : IsChain apex chain) (n : Nsec) (held : Contains chain n) (covers : Covers apex n name) where
+  all_up : (m : Nsec) (ms : List Nsec) → IsBefore name m.owner → AllByRecursion (λ q. IsBefore m.owner q.owner) ms → AllByRecursion (λ q. IsBefore name q.owner) ms
+  all_up m [] up h = tt
+  all_up m (q ∷ qs) up h = (name_cmp_total.trans name m.owner q.owner up h.0, all_up m qs up h.1)
+
+  rest_up : (front rest : List Nsec) → SameName n.next (next_owner apex rest) → AreAscending (front ++ n ∷ rest) → SameName (next_owner apex (front ++ n ∷ rest)) apex → AllByRecursion (λ q. IsBefore name q.owner) rest
+  rest_up front [] s asc top = tt
+  rest_up front (m ∷ ms) s asc top =
+      let up : IsBefore name m.owner = elim covers.before [
+        | inl before ↦ before_same name n.next m.owner before (same_back n.next m.owner s)
+        | inr wraps ↦ absurd (not_apex apex front n m ms asc top (record { labels = sym s.labels ∙ wraps.labels; marks = sym s.marks ∙ wraps.marks }))
+      ] in
+      (up, all_up m ms up (ascending_at front n (m ∷ ms) asc).1.0)
+
+  not_same : (m : Nsec) → IsBefore m.owner name ⊎ IsBefore name m.owner → ¬ (SameName m.owner name)
+  not_same m (inl before) s = not_both m.owner name before (ap is_gt (equal_of name m.owner (same_back m.owner name s)))
+  not_same m (inr after) s = not_both name m.owner after (ap is_gt (equal_of m.owner name s))
+
+  pub no_owner : (m : Nsec) → Contains chain m → ¬ (SameName m.owner name)
+  no_owner m x =
+      let at = split chain n held in
+      let links : SameName n.next (next_owner apex at.rest) = (linked_at apex at.front n at.rest (subst (AreLinked apex) at.is is_chain.linked)).0 in
+      let ordered : AreAscending (at.front ++ n ∷ at.rest) = subst AreAscending at.is is_chain.ascending in
+      let up = rest_up at.front at.rest links ordered (subst (λ ns. SameName (next_owner apex ns) apex) at.is is_chain.top) in
+      elim (Contains-append_cases at.front (n ∷ at.rest) m (subst (λ ns. Contains ns m) at.is x)) [
+        | inl f ↦ not_same m (inl (name_cmp_total.trans m.owner n.owner name (All-contains (λ (q : Nsec). IsBefore q.owner n.owner) at.front m (All-from_recursion (λ (q : Nsec). IsBefore q.owner n.owner) at.front (before_at at.front n at.rest ordered)) f) covers.after))
+        | inr r ↦ elim (head_or_in n at.rest m r) [
+          | inl is ↦ not_same m (inl (subst (λ (q : Nsec). IsBefore q.owner name) is covers.after))
+          | inr more ↦ not_same m (inr (All-contains (λ (q : Nsec). IsBefore name q.owner) at.rest m (All-from_recursion (λ (q : Nsec). IsBefore name q.owner) at.rest up) more))
+        ]
+      ]
+
+module _ (apex name : DomainName) (chain : List Nsec) (is_chain : IsChain apex chain) (qualified : name.is_fqdn ≡ true) where
+  without : (t : ℕ) (n : Nsec) → Contains chain n → ShowsLack n name t → LacksIn chain name t
+  without t n held lack = let r : IsWithout chain name t = record { at = n; held = held; is = lack.matches; none = lack.lacks; no_alias = lack.no_alias } in inl r
+
+  is_empty : (t : ℕ) (n : Nsec) → Contains chain n → ShowsEmpty apex n name → LacksIn chain name t
+  is_empty t n held shows =
+      let r : IsEmptyName chain name = record {
+        named = unseen apex name chain is_chain qualified n (last_of apex name chain n is_chain held shows.covers) name.labels (inr shows.below);
+        no_owner = no_owner apex name chain is_chain n held shows.covers;
+      } in inr r
+
+pub denied_types_are_missing : DeniedTypesAreMissing
+denied_types_are_missing apex chain shown name _ is_chain qualified among (lacking {n} {t} put lack) = inl (without apex name chain is_chain qualified t n (among n put) lack)
+denied_types_are_missing apex chain shown name _ is_chain qualified among (empty {n} {t} put shows) = inl (is_empty apex name chain is_chain qualified t n (among n put) shows)
+denied_types_are_missing apex chain shown name _ is_chain qualified among (wild_lacking {n} {m} {k} {t} put_n put_m shows encloser lack) = inr (
+  k,
+  wildcards_are_true apex chain shown name k is_chain qualified among (closest put_n shows encloser),
+  without apex (wildcard (ancestor name k)) chain is_chain qualified t m (among m put_m) lack,
+)
+denied_types_are_missing apex chain shown name _ is_chain qualified among (wild_empty {n} {m} {k} {t} put_n put_m shows encloser below) = inr (
+  k,
+  wildcards_are_true apex chain shown name k is_chain qualified among (closest put_n shows encloser),
+  is_empty apex (wildcard (ancestor name k)) chain is_chain qualified t m (among m put_m) below,
+)
+
+pub unsigned_zones_are_cuts : UnsignedZonesAreCuts
+unsigned_zones_are_cuts apex chain shown name among (insecure {n} put same cut no_ds) = (n, among n put, same, cut, no_ds)

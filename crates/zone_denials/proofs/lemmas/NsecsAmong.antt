@@ -1,5 +1,5 @@
 -- The last NSEC key before a name has the last record of the chain before it.
-use Rattle.std.proofs.Common.{◌≡◌, ℕ, ◌==◌, true, false, Bool, cond, List, [], ◌∷◌, ◌++◌, inl, inr, refl, sym, ap, subst, ◌∙◌, append_assoc, arith}
+use Rattle.std.proofs.Common.{◌≡◌, ℕ, ◌==◌, true, false, Bool, cond, List, [], ◌∷◌, ◌++◌, refl, sym, ap, subst, ◌∙◌, append_assoc, arith}
 use Rattle.std.specs.List.{AllByRecursion}
 use Rattle.std.specs.declared.cmp.Ordering.{Ordering}
 use Rattle.std.specs.declared.cmp.Ordering.TheVariants.{Less, Equal, Greater}
@@ -10,8 +10,7 @@ use Rattle.wire_messages.specs.Numbers.{type_nsec}
 use Rattle.wire_messages.specs.rr.RrKeys.{key_cmp}
 use Rattle.wire_messages.specs.declared.rr.rr_key.RrKey.{RrKey}
 use Rattle.zone_denials.specs.Nsec.{IsBefore, Nsec}
-use Rattle.zone_denials.specs.NsecChain.{IsLastBefore}
-use Rattle.zone_denials.specs.NsecKeys.{IsLastNsec, LastNsecIsLast, chain_of, is_nsec, is_other}
+use Rattle.zone_denials.specs.NsecKeys.{LastNsecIsLast, chain_of, is_nsec, is_other}
 
 put : (b : Bool) (n : Nsec) (xs ys : List Nsec) → cond b (n ∷ (xs ++ ys)) (xs ++ ys) ≡ cond b (n ∷ xs) xs ++ ys
 put true n xs ys = refl

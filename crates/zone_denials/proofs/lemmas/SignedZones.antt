@@ -1,7 +1,7 @@
 -- The chain of a signed zone has what the zone has.
-use Rattle.std.proofs.Common.{◌≡◌, ℕ, zero, suc, ◌+◌, ◌-◌, ◌<◌, ◌≤◌, true, false, List, [], ◌∷◌, ◌++◌, drop, length, length-append, inl, inr, refl, sym, ap, subst, ◌∙◌, append_assoc, arith}
-use Rattle.std.specs.Prelude.{◌⊎◌, ◌↔◌}
-use Rattle.std.specs.List.{All, Contains, drop-map}
+use Rattle.std.proofs.Common.{◌≡◌, ℕ, zero, suc, ◌+◌, ◌-◌, ◌<◌, ◌≤◌, true, List, [], ◌∷◌, ◌++◌, drop, length, length-append, inl, inr, refl, sym, ap, subst, ◌∙◌, append_assoc, arith}
+use Rattle.std.specs.Prelude.{◌⊎◌}
+use Rattle.std.specs.List.{Contains, drop-map}
 use Rattle.std.proofs.lemmas.List.{drop-drop, length-drop, length-map}
 use Rattle.std.proofs.lemmas.List.Elements.{All-contains}
 use Rattle.wire_names.specs.rr.domain.DomainName.{DomainName}
@@ -9,11 +9,11 @@ use Rattle.wire_names.specs.rr.domain.NameOrder.{Encloses, SameName, lower_label
 use Rattle.wire_messages.specs.Numbers.{type_cname, type_dname, type_ds, type_ns, type_soa}
 use Rattle.zone_denials.proofs.lemmas.EnclosedBetween.{same_back}
 use Rattle.zone_denials.proofs.lemmas.NsecChains.{enclosed_same, encloses_drop, encloses_same, shows_empty, shows_encloser, shows_missing}
-use Rattle.zone_denials.specs.Nsec.{IsAtCut, Nsec, Proves, ShowsEncloser, ShowsLack, ShowsMissing, IsOpen, ancestor, closest, empty, insecure, lacking, missing, wild_lacking, wildcard}
+use Rattle.zone_denials.specs.Nsec.{IsAtCut, Nsec, ShowsEncloser, ShowsLack, ShowsMissing, ancestor, closest, empty, insecure, lacking, missing, wild_lacking, wildcard}
 use Rattle.zone_denials.specs.NsecChain.{IsLastBefore, IsNamed, AreOpenAbove}
 use Rattle.zone_denials.specs.NsecLaws.{IsEncloser}
-use Rattle.zone_denials.specs.SignedZone.{Exists, HasClosestEncloser, HasSet, IsChained, IsClosed, IsCut, IsLinked, IsOwn, IsListed, ZoneKeys}
-use Rattle.zone_denials.specs.SignedZoneLaws.{CutsAreProved, EmptyNamesAreProved, IsDenied, IsEmpty, IsSynthesized, Lacks, NamesAreDenied, OwnersAreLinked, TypesAreDenied, WildTypesAreDenied, WildcardsAreProved}
+use Rattle.zone_denials.specs.SignedZone.{Exists, HasClosestEncloser, HasSet, IsChained, IsClosed, IsCut, IsOwn, IsListed, ZoneKeys}
+use Rattle.zone_denials.specs.SignedZoneLaws.{CutsAreProved, EmptyNamesAreProved, IsSynthesized, Lacks, NamesAreDenied, OwnersAreLinked, TypesAreDenied, WildTypesAreDenied, WildcardsAreProved}
 
 pub same_trans : (a b c : DomainName) → SameName a b → SameName b c → SameName a c
 same_trans a b c p q = record { labels = p.labels ∙ q.labels; marks = p.marks ∙ q.marks }

@@ -1,13 +1,13 @@
 -- The small zone is chained.
-use Rattle.std.proofs.Common.{◌≡◌, ℕ, ◌<◌, true, List, [], ◌∷◌, length, inl, inr, refl, sym, ap, subst, ◌∙◌, arith}
-use Rattle.std.specs.Prelude.{◌⊎◌, ◌↔◌}
-use Rattle.std.specs.List.{All, AllByRecursion, Contains}
+use Rattle.std.proofs.Common.{◌≡◌, ℕ, true, [], ◌∷◌, length, inl, refl, ap, subst, arith}
+use Rattle.std.specs.Prelude.{◌↔◌}
+use Rattle.std.specs.List.{AllByRecursion, Contains}
 use Rattle.std.proofs.lemmas.List.Elements.{All-contains, All-from_recursion}
 use Rattle.wire_names.specs.rr.domain.DomainName.{DomainName}
 use Rattle.wire_names.specs.rr.domain.NameOrder.{Encloses, SameName}
 use Rattle.wire_messages.specs.declared.rr.rr_key.RrKey.{RrKey}
 use Rattle.zone_denials.specs.Nsec.{Nsec}
-use Rattle.zone_denials.specs.SignedZone.{HasSet, IsChained, IsLinked, IsListed, ZoneKeys}
+use Rattle.zone_denials.specs.SignedZone.{HasSet, IsLinked}
 use Rattle.zone_denials.specs.WorkedSignedZone.{SmallZoneIsChained, at_host, at_top, host, key, small_chain, small_zone, top}
 
 same : (n : DomainName) → SameName n n

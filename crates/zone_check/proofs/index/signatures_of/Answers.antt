@@ -1,5 +1,5 @@
 use Rattle.std.proofs.Common.{sym, arith}
-use Rattle.zone_check.proofs.Lookups.{no_signature_more, one_more_signature}
+use Rattle.zone_check.proofs.Lookups.{one_more_signature}
 use Rattle.zone_check.proofs.index.signatures_of.Goals as goal
 
 pub loop-place-preserved-in-Some : goal.loop-place-preserved-in-Some

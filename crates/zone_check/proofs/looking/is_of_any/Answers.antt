@@ -7,6 +7,9 @@ returns-in-BelowDname c = rw c.in-BelowDname.is c.is_below_dname.ensures
 pub returns-in-BelowCut : goal.returns-in-BelowCut
 returns-in-BelowCut c = rw c.in-BelowCut.is c.is_data_below_cut.ensures
 
+pub returns-in-OtherTtl : goal.returns-in-OtherTtl
+returns-in-OtherTtl c = rw c.in-OtherTtl.is c.has_other_ttl.ensures
+
 pub returns-in-NoAddress : goal.returns-in-NoAddress
 returns-in-NoAddress c = rw c.in-NoAddress.is c.has_no_address.ensures
 

@@ -1,7 +1,6 @@
-use Rattle.std.proofs.Common.{◌≡◌, ◌↔◌, ◌∙◌, IsTrue, ℕ, List, sym, ap, subst, refl}
+use Rattle.std.proofs.Common.{◌↔◌, ◌∙◌, IsTrue, ℕ, List, sym, ap, subst, refl}
 use Rattle.std.specs.List.{Contains}
 use Rattle.std.specs.Option.{option_map}
-use Rattle.wire_messages.specs.rr.RecordData.{type_of}
 use Rattle.zone_check.proofs.SignedAnswers.{any_is, unlisted_is}
 use Rattle.zone_check.specs.SignedZones.{IsListed}
 use Rattle.zone_denials.specs.declared.nsec.NsecData.{NsecData}
