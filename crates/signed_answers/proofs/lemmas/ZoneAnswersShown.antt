@@ -1,7 +1,7 @@
 -- The zone's answers as facts of its keys.
-use Rattle.std.proofs.Common.{◌≡◌, ◌==◌, ℕ, zero, suc, ◌+◌, ◌<◌, ◌≤◌, true, false, Bool, cond, List, [], ◌∷◌, ◌++◌, drop, length, length-append, Option, Some, None, inl, inr, refl, sym, ap, subst, ◌∙◌, arith}
-use Rattle.std.specs.Prelude.{◌⊎◌, is_some}
-use Rattle.std.specs.List.{All, Contains}
+use Rattle.std.proofs.Common.{◌≡◌, ◌==◌, ℕ, zero, suc, ◌+◌, ◌<◌, ◌≤◌, true, false, Bool, cond, List, [], ◌∷◌, ◌++◌, length, length-append, Option, Some, None, inl, inr, refl, sym, ap, subst, ◌∙◌, arith}
+use Rattle.std.specs.Prelude.{is_some}
+use Rattle.std.specs.List.{Contains}
 use Rattle.std.specs.Map.{keys_of, lookup}
 use Rattle.std.specs.Ordering.{is_eq, nat_cmp, ordering_then}
 use Rattle.std.specs.Cmp.{nat_cmp_total, tied_itself}
@@ -12,8 +12,7 @@ use Rattle.std.specs.Prelude.{◌&&◌}
 use Rattle.wire_names.specs.representation.NameHash.{equal_is}
 use Rattle.hickory_base.proofs.lemmas.zone_store.ZoneByName.{eq_numbers, eq_then}
 use Rattle.zone_denials.proofs.lemmas.EnclosedBetween.{same_of}
-use Rattle.std.proofs.lemmas.List.Elements.{All-contains, Contains-append_cases, Contains-push_cases}
-use Rattle.std.specs.declared.cmp.Ordering.TheVariants.{Equal}
+use Rattle.std.proofs.lemmas.List.Elements.{All-contains}
 use Rattle.wire_names.specs.rr.domain.DomainName.{DomainName}
 use Rattle.wire_names.specs.rr.domain.NameOrder.{Encloses, SameName, lower_label, lower_labels, name_cmp}
 use Rattle.wire_messages.specs.Numbers.{type_any, type_cname, type_dname, type_ds, type_ns}
@@ -23,11 +22,11 @@ use Rattle.zone_denials.proofs.lemmas.EnclosedBetween.{equal_of, same_back}
 use Rattle.zone_denials.proofs.lemmas.Members.{head_or_in}
 use Rattle.zone_denials.proofs.lemmas.NsecChains.{enclosed_same}
 use Rattle.zone_denials.proofs.lemmas.SignedZones.{cuts_are_proved, names_are_denied, types_are_denied, wildcards_are_proved}
-use Rattle.zone_denials.specs.Nsec.{Nsec, Proves, ancestor, wildcard}
+use Rattle.zone_denials.specs.Nsec.{ancestor, wildcard}
 use Rattle.zone_denials.specs.SignedZone as keys
 use Rattle.zone_denials.specs.SignedZone.{HasSet, IsChained, IsOwn, ZoneKeys}
-use Rattle.zone_denials.specs.SignedZoneLaws.{IsDenied, IsSynthesized, Lacks}
-use Rattle.signed_answers.specs.ZoneAnswers.{IsAsked, NameErrorsAreProved, NoDataIsProved, ReferralsAreProved, WildAliasesAreProved, WildAnswersAreProved, keys_in}
+use Rattle.zone_denials.specs.SignedZoneLaws.{Lacks}
+use Rattle.signed_answers.specs.ZoneAnswers.{NameErrorsAreProved, NoDataIsProved, ReferralsAreProved, WildAliasesAreProved, WildAnswersAreProved, keys_in}
 use Rattle.zone_answers.specs.Zones as zones
 use Rattle.zone_answers.specs.Zones.{Answers, AnswersDirectly, AreOwners, Delegates, Exists, HasClosestEncloser, HasDname, IsAuthoritativeAt, IsCut, IsOwner, Outcome, Records, Redirects, Sets, Zone, any_of, at_node, by_wildcard, of_sets, rrset}
 
@@ -59,33 +58,37 @@ module _ (zone : Zone) (apex : zone.origin.is_fqdn ≡ true) (owners : AreOwners
   longer name mark e (f ∷ fs) is differs =
       omega (arith, ap length e.ends, ap length is, length-append e.front (lower_labels zone.origin.labels), length-map name.labels lower_label, length-map zone.origin.labels lower_label)
 
-  cut_of : (name : DomainName) → keys.IsCut (keys_in zone) name → IsCut zone name
+  pub cut_of : (name : DomainName) → keys.IsCut (keys_in zone) name → IsCut zone name
   cut_of name c =
       let e = within name type_ns c.servers in
       let mark : name.is_fqdn ≡ true = sym c.servers.named.marks ∙ (All-contains (IsOwner zone.origin) (keys_of zone.sets) c.servers.key owners c.servers.held).qualified in
       record { within = e; below_apex = longer name mark e e.front refl c.below_apex; servers = set_of name type_ns c.servers }
 
-  module _ (name : DomainName) (auth : IsAuthoritativeAt zone name) (undirected : (k : ℕ) → ¬ (Redirects zone name k)) where
-    none_above : (d k : ℕ) → 0 < k → length name.labels ≤ k + d → k ≤ length name.labels → ¬ (HasDname zone (ancestor name k))
-    none_above zero k above far near h = undirected k (record { above = above; is_ancestor = near; owner = h; highest = λ j less within. absurd (omega arith); uncut = λ j from. auth j })
-    none_above (suc d) k above far near h = undirected k (record { above = above; is_ancestor = near; owner = h; highest = λ j less within. none_above d j (omega arith) (omega arith) within; uncut = λ j from. auth j })
+  -- Above an ancestor of a name above which the zone is not cut there is no DNAME if nothing redirects the name.
+  module _ (name : DomainName) (base : ℕ) (uncut : (j : ℕ) → base < j → ¬ (IsCut zone (ancestor name j))) (undirected : (k : ℕ) → ¬ (Redirects zone name k)) where
+    none_above : (d k : ℕ) → base < k → length name.labels ≤ k + d → k ≤ length name.labels → ¬ (HasDname zone (ancestor name k))
+    none_above zero k above far near h = undirected k (record { above = omega arith; is_ancestor = near; owner = h; highest = λ j less within. absurd (omega arith); uncut = λ j from. uncut j (omega arith) })
+    none_above (suc d) k above far near h = undirected k (record { above = omega arith; is_ancestor = near; owner = h; highest = λ j less within. none_above d j (omega arith) (omega arith) within; uncut = λ j from. uncut j (omega arith) })
 
     dname_of : (at : DomainName) → HasSet (keys_in zone) at type_dname → HasDname zone at
     dname_of at h = record { within = within at type_dname h; dname = set_of at type_dname h }
 
-    pub own_of : IsOwn (keys_in zone) name
-    own_of = record {
-      uncut = λ k c. auth k (cut_of (ancestor name k) c);
-      undirected = λ k above near h. none_above (length name.labels) k above (omega arith) near (dname_of (ancestor name k) h);
-    }
+    pub no_dname_above : (k : ℕ) → base < k → k ≤ length name.labels → ¬ (HasSet (keys_in zone) (ancestor name k) type_dname)
+    no_dname_above k above near h = none_above (length name.labels) k above (omega arith) near (dname_of (ancestor name k) h)
 
-exists_in : (zone : Zone) (name : DomainName) → keys.Exists (keys_in zone) name → Exists zone.sets name
+  pub own_of : (name : DomainName) → IsAuthoritativeAt zone name → ((k : ℕ) → ¬ (Redirects zone name k)) → IsOwn (keys_in zone) name
+  own_of name auth undirected = record {
+    uncut = λ k c. auth k (cut_of (ancestor name k) c);
+    undirected = λ k above near. no_dname_above name 0 (λ j less. auth j) undirected k above near;
+  }
+
+pub exists_in : (zone : Zone) (name : DomainName) → keys.Exists (keys_in zone) name → Exists zone.sets name
 exists_in zone name x = record { owner = x.owner; held = x.held; at_or_below = x.at_or_below }
 
-exists_of : (zone : Zone) (name : DomainName) → Exists zone.sets name → keys.Exists (keys_in zone) name
+pub exists_of : (zone : Zone) (name : DomainName) → Exists zone.sets name → keys.Exists (keys_in zone) name
 exists_of zone name x = record { owner = x.owner; held = x.held; at_or_below = x.at_or_below }
 
-encloser_of : (zone : Zone) (name : DomainName) (k : ℕ) → HasClosestEncloser zone.sets name k → keys.HasClosestEncloser (keys_in zone) name k
+pub encloser_of : (zone : Zone) (name : DomainName) (k : ℕ) → HasClosestEncloser zone.sets name k → keys.HasClosestEncloser (keys_in zone) name k
 encloser_of zone name k h = record { exists = exists_of zone (ancestor name k) h.exists; longest = λ j less x. h.longest j less (exists_in zone (ancestor name j) x) }
 
 abbrev pub is_missing : Outcome → Bool
@@ -148,7 +151,7 @@ wild_not o rs h e = absurd (false_true (sym h ∙ ap is_wild e)) where
   false_true : false ≡ true → ⊥
   false_true f = cc
 
-missing_by : (zone : Zone) (name : DomainName) (t : ℕ) (o : Outcome) → AnswersDirectly zone name t o → o ≡ zones.no_name → Missing zone name
+pub missing_by : (zone : Zone) (name : DomainName) (t : ℕ) (o : Outcome) → AnswersDirectly zone name t o → o ≡ zones.no_name → Missing zone name
 missing_by zone name t o (zones.delegated {k} {servers} d ds is) e = absurd (missing_not (zones.referral servers) refl e)
 missing_by zone name t o (zones.at_cut d ds) e = absurd (missing_not (at_node zone.sets name t) (at_plain zone.sets name t).found e)
 missing_by zone name t o (zones.matched auth x) e = absurd (missing_not (at_node zone.sets name t) (at_plain zone.sets name t).found e)
@@ -163,7 +166,7 @@ pub record Wild (zone : Zone) (name : DomainName) : Type 0 where
   pub none : ¬ (Exists zone.sets name)
   pub encloser : HasClosestEncloser zone.sets name count
 
-wild_by : (zone : Zone) (name : DomainName) (t : ℕ) (rs : Records) (o : Outcome) → AnswersDirectly zone name t o → o ≡ zones.wild_answer rs → Wild zone name
+pub wild_by : (zone : Zone) (name : DomainName) (t : ℕ) (rs : Records) (o : Outcome) → AnswersDirectly zone name t o → o ≡ zones.wild_answer rs → Wild zone name
 wild_by zone name t rs o (zones.delegated {k} {servers} d ds is) e = absurd (wild_not (zones.referral servers) rs refl e)
 wild_by zone name t rs o (zones.at_cut d ds) e = absurd (wild_not (at_node zone.sets name t) rs (at_plain zone.sets name t).own e)
 wild_by zone name t rs o (zones.matched auth x) e = absurd (wild_not (at_node zone.sets name t) rs (at_plain zone.sets name t).own e)
@@ -179,7 +182,7 @@ abbrev pub is_redirection : Outcome → Bool
 is_redirection (zones.redirection k rs) = true
 is_redirection other = false
 
-direct_by : (zone : Zone) (name : DomainName) (t : ℕ) (o p : Outcome) → Answers zone name t o → o ≡ p → is_redirection p ≡ false → Direct zone name t p
+pub direct_by : (zone : Zone) (name : DomainName) (t : ℕ) (o p : Outcome) → Answers zone name t o → o ≡ p → is_redirection p ≡ false → Direct zone name t p
 direct_by zone name t o p (zones.redirected {k} {dname} r is) e h = absurd (true_false (ap is_redirection e ∙ h)) where
   true_false : true ≡ false → ⊥
   true_false f = cc
@@ -220,7 +223,7 @@ alias_not o rs h e = absurd (false_true (sym h ∙ ap is_wild_alias e)) where
   false_true : false ≡ true → ⊥
   false_true f = cc
 
-alias_by : (zone : Zone) (name : DomainName) (t : ℕ) (rs : Records) (o : Outcome) → AnswersDirectly zone name t o → o ≡ zones.wild_alias rs → Wild zone name
+pub alias_by : (zone : Zone) (name : DomainName) (t : ℕ) (rs : Records) (o : Outcome) → AnswersDirectly zone name t o → o ≡ zones.wild_alias rs → Wild zone name
 alias_by zone name t rs o (zones.delegated {k} {servers} d ds is) e = absurd (alias_not (zones.referral servers) rs refl e)
 alias_by zone name t rs o (zones.at_cut d ds) e = absurd (alias_not (at_node zone.sets name t) rs (at_plain zone.sets name t).own_alias e)
 alias_by zone name t rs o (zones.matched auth x) e = absurd (alias_not (at_node zone.sets name t) rs (at_plain zone.sets name t).own_alias e)
@@ -247,7 +250,7 @@ abbrev pub is_lack : Outcome → Bool
 is_lack zones.no_data = true
 is_lack other = false
 
-lack_not : (o : Outcome) → is_lack o ≡ false → o ≡ zones.no_data → ⊥
+pub lack_not : (o : Outcome) → is_lack o ≡ false → o ≡ zones.no_data → ⊥
 lack_not o h e = absurd (false_true (sym h ∙ ap is_lack e)) where
   false_true : false ≡ true → ⊥
   false_true f = cc
@@ -262,7 +265,7 @@ neither_of sets name t (Some rs) b p q e = absurd (lack_not (zones.answer rs) re
 neither_of sets name t None (Some rs) p q e = absurd (lack_not (zones.alias rs) refl e)
 neither_of sets name t None None p q e = record { none = p; no_alias = q }
 
-by_any : (sets : Sets) (name : DomainName) (t : ℕ) (any : Outcome) (b : Bool) → (t == type_any) ≡ b → ¬ (t ≡ type_any) → cond b any (of_sets (rrset sets name t) (rrset sets name type_cname)) ≡ zones.no_data → HasNeither sets name t
+pub by_any : (sets : Sets) (name : DomainName) (t : ℕ) (any : Outcome) (b : Bool) → (t == type_any) ≡ b → ¬ (t ≡ type_any) → cond b any (of_sets (rrset sets name t) (rrset sets name type_cname)) ≡ zones.no_data → HasNeither sets name t
 by_any sets name t any true is one e = absurd (one (grind (arith, nat_tests, is)))
 by_any sets name t any false is one e = neither_of sets name t (rrset sets name t) (rrset sets name type_cname) refl refl e
 
@@ -278,7 +281,7 @@ without_by zone name t o one x (zones.matched auth y) e = at_own auth (by_any zo
 without_by zone name t o one x (zones.wild {k} auth none enc y) e = absurd (none x)
 without_by zone name t o one x (zones.denied auth none no_wild) e = absurd (none x)
 
-none_set : (zone : Zone) → zone.origin.is_fqdn ≡ true → AreOwners zone.origin zone.sets → (name : DomainName) (t : ℕ) → rrset zone.sets name t ≡ None → ¬ (HasSet (keys_in zone) name t)
+pub none_set : (zone : Zone) → zone.origin.is_fqdn ≡ true → AreOwners zone.origin zone.sets → (name : DomainName) (t : ℕ) → rrset zone.sets name t ≡ None → ¬ (HasSet (keys_in zone) name t)
 none_set zone apex owners name t is h = absurd (false_true (sym (ap is_some is) ∙ set_of zone apex owners name t h)) where
   false_true : false ≡ true → ⊥
   false_true f = cc
@@ -326,7 +329,7 @@ set_from : (sets : Sets) (origin name : DomainName) (t : ℕ) → is_some (rrset
 set_from [] origin name t h = absurd cc
 set_from (e ∷ sets) origin name t h = set_step (is_key name t e.0) name origin t e sets refl h (set_from sets origin name t)
 
-key_cut : (zone : Zone) (name : DomainName) → IsCut zone name → keys.IsCut (keys_in zone) name
+pub key_cut : (zone : Zone) (name : DomainName) → IsCut zone name → keys.IsCut (keys_in zone) name
 key_cut zone name c = record {
   below_apex = λ s. absurd (omega (arith, c.below_apex, ap length s.labels, length-map name.labels lower_label, length-map zone.origin.labels lower_label));
   servers = set_from zone.sets zone.origin name type_ns c.servers;
