@@ -59,6 +59,7 @@ static intmax_t journal_length(const char *path) {
 static void write_zone(int fd) {
     const struct given *journal = find(settings, "--journal", asked->text);
     const char *file = strchr(asked->text, '='), *why = asked->refused;
+    uint64_t serial = __atomic_load_n(&settings->serials[asked - settings->given], __ATOMIC_RELAXED);
     char at[32] = "never";
     if (asked->bytes != NULL)
         strftime(at, sizeof at, "%Y-%m-%d %H:%M:%S UTC", gmtime(&asked->loaded));
@@ -67,6 +68,9 @@ static void write_zone(int fd) {
             : asked->bytes != NULL ? "as before: "
                                    : "failed: ",
             why != NULL ? why : "", at, file + 1);
+    if (serial != NO_SERIAL)
+        dprintf(fd, "serial: %ju\n", (uintmax_t)serial);
+    dprintf(fd, "notices-waiting: %ju\n", (uintmax_t)__atomic_load_n(&shared->notices, __ATOMIC_RELAXED));
     if (journal != NULL)
         dprintf(fd, "journal: %s%s\njournal-bytes: %jd\n", strchr(journal->text, '=') + 1, lack(journal),
                 journal_length(strchr(journal->text, '=') + 1));

@@ -67,19 +67,22 @@ struct settings {
     int count, zones, refused, numbers[NUMBERS];
     bool is_check;        /* the files are only to be read */
     bool *has_failed;     /* for each text: a journal that could not be written. All processes share these */
+    uint64_t *serials;    /* and of a zone the serial that was announced last, or NO_SERIAL. These too */
     zone_service service; /* at NULL if there is none */
 };
 extern struct settings *settings;
+#define NO_SERIAL UINT64_MAX
 #define EACH_GIVEN(g) for (struct given *g = settings->given; g < settings->given + settings->count; g++)
 static inline bool is_zone(const struct given *it) {
     return it->option->set_pair == zone_service_add_zone;
 }
 
-/* What all processes share: what the workers counted, how many have closed their sockets to end, and a number that
+/* What all processes share: what the workers counted, how many notices wait, how many have closed their sockets to end,
+ * and a number that
  * grows when they are to begin a query log, and is odd if they are to have none. */
 #define COUNTERS (sizeof(struct zone_service_counters) / sizeof(uint64_t))
 extern struct shared {
-    uint64_t counters[COUNTERS], journal_failures, left;
+    uint64_t counters[COUNTERS], journal_failures, notices, left;
     uint32_t log_turn;
 } *shared;
 
@@ -169,6 +172,12 @@ void journals_hold(void);
 void journals_settle(void);
 void journals_compact(void);
 bool journals_close(void);
+
+/* notify.c: begin has this worker tell other servers of changes of zones. A turn does what is to be done now; so many
+ * events came before it. patience is how many milliseconds later the next turn is needed, or -1. */
+void notify_begin(void);
+void notify_turn(int events);
+int notify_patience(void);
 
 /* udp.c: answers what waits at a socket. */
 void udp_ready(struct watch *socket);

@@ -84,6 +84,8 @@ static _Noreturn void become(struct worker *worker, struct settings *before, pid
     let_end(false);
     is_ready &= write(ready[1], said, is_ready ? 1 : strlen(said)) > 0;
     close(ready[1]);
+    if (worker == workers)
+        notify_begin();
     _exit(is_ready && getppid() == parent ? work(&worker->sockets) : 1);
 }
 

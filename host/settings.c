@@ -23,15 +23,20 @@ static const struct option options[] = {
     {"--nsid", "TEXT that identifies this server", .set = zone_service_set_identifier},
     {"--allow", "NET that may ask; no other may then", .set = zone_service_set_allowed},
     {"--deny", "NET that may not", .set = zone_service_set_denied},
-    {"--allow-transfer", "NET that may have zones transferred; nobody by default",
-     .set = zone_service_set_transfer_allowed},
-    {"--deny-transfer", "NET, part of an allowed one, that may not", .set = zone_service_set_transfer_denied},
-    {"--allow-transfer-key", "NAME of a key that may have zones transferred from anywhere",
-     .set = zone_service_allow_transfer_key},
     {"--zone", "NAME=FILE: the zone at NAME, from a zone file", .set_pair = zone_service_add_zone, .is_file = true},
+    {"--allow-transfer", "NET that may have zones transferred, nobody by default: ZONE=NET for one zone",
+     .set = zone_service_set_transfer_allowed, .set_pair = zone_service_set_zone_transfer_allowed},
+    {"--deny-transfer", "NET, part of an allowed one, that may not: ZONE=NET for one zone",
+     .set = zone_service_set_transfer_denied, .set_pair = zone_service_set_zone_transfer_denied},
+    {"--allow-transfer-key", "NAME of a key that may, from anywhere: ZONE=NAME for one zone",
+     .set = zone_service_allow_transfer_key, .set_pair = zone_service_allow_zone_transfer_key},
     {"--allow-update", "'ZONE=KEY [zone|subdomain NAME|name NAME|self] [TYPE..]': who may update what",
      .set_pair = zone_service_allow_update},
     {"--journal", "NAME=FILE: the updates of the zone at NAME are kept in FILE and FILE-wal", .set = NULL},
+    {"--notify", "yes, explicit or no: who is told of changes, the servers of NS records too, configured ones, nobody",
+     .set = zone_service_set_notify},
+    {"--also-notify", "ADDRESS[@PORT] that is told of changes of all zones; of one: NAME=ADDRESS[@PORT]",
+     .set = zone_service_also_notify, .set_pair = zone_service_also_notify_of},
     {"--control", "PATH of a Unix socket where zonedctl asks it", .set = NULL},
     {"--metrics", "ADDRESS@PORT of loopback, where Prometheus reads its counters over HTTP", .set = NULL},
     {"--query-log", "PATH of a file to which a line for each query is put", .set = NULL},
@@ -256,9 +261,9 @@ static int set(struct given *g, const struct settings *before) {
     snprintf(what, sizeof what, "%s: \"%.250s\"", o->name, g->text);
     size_t len = strlen(value);
     uint8_t *bytes = o->is_file ? read_file(value, &len) : (uint8_t *)strdup(value);
-    uint32_t is = bytes == NULL    ? ZONE_SERVICE_FAULT
-                  : o->set != NULL ? o->set(&settings->service, bytes, len, FAULT)
-                                   : o->set_pair(&settings->service, name, (size_t)(mark - g->text), bytes, len, FAULT);
+    uint32_t is = bytes == NULL  ? ZONE_SERVICE_FAULT
+                  : mark == NULL ? o->set(&settings->service, bytes, len, FAULT)
+                                 : o->set_pair(&settings->service, name, (size_t)(mark - g->text), bytes, len, FAULT);
     if (bytes != NULL)
         told(value, o->is_file && mark == NULL ? value : what, is);
     settings->zones += is_zone(g);
@@ -270,13 +275,29 @@ static int set(struct given *g, const struct settings *before) {
     return is == ZONE_SERVICE_FAULT && is_zone(g) ? keep_zone(g, before) : (int)is;
 }
 
+/* Memory that all processes share, or NULL. */
+static void *share_zeros(size_t len) {
+    void *at = mmap(NULL, len, PROT_READ | PROT_WRITE, MAP_SHARED | MAP_ANONYMOUS, -1, 0);
+    return at != MAP_FAILED ? at : NULL;
+}
+
+/* Keeps which serials of zones were announced. */
+static void keep_serials(const struct settings *before) {
+    EACH_GIVEN (g) {
+        const struct given *old = before != NULL && is_zone(g) ? find(before, "--zone", g->text) : NULL;
+        settings->serials[g - settings->given] = old != NULL ? before->serials[old - before->given] : NO_SERIAL;
+    }
+}
+
 int load(const struct settings *before) {
     const int *n = settings->numbers;
     zone_service *service = &settings->service;
-    settings->has_failed =
-        mmap(NULL, (size_t)settings->count, PROT_READ | PROT_WRITE, MAP_SHARED | MAP_ANONYMOUS, -1, 0);
-    if (settings->has_failed == MAP_FAILED || zone_service_create(&service->at) != ZONE_SERVICE_DONE)
+    settings->has_failed = share_zeros((size_t)settings->count);
+    settings->serials = share_zeros((size_t)settings->count * sizeof(uint64_t));
+    if (settings->has_failed == NULL || settings->serials == NULL ||
+        zone_service_create(&service->at) != ZONE_SERVICE_DONE)
         return complain("no memory");
+    keep_serials(before);
     int wrong =
         told(NULL, "--max-udp", zone_service_set_max_udp(service, (uint16_t)n[MAX_UDP], FAULT)) ||
         told(NULL, "--rate-limit", zone_service_set_rate_limit(service, (uint32_t)n[RATE], (uint32_t)n[SLIP], FAULT));
@@ -306,6 +327,8 @@ void forget(struct settings *old) {
         zone_service_free(old->service);
     if (old->has_failed != NULL)
         munmap(old->has_failed, (size_t)old->count);
+    if (old->serials != NULL)
+        munmap(old->serials, (size_t)old->count * sizeof(uint64_t));
     for (struct given *g = old->given; g < old->given + old->count; g++) {
         free(g->text);
         free(g->bytes);

@@ -568,6 +568,64 @@ def try_keys(folder, zone, port):
     want("a wrong key of a rule is told with its line", told(["--config", config, "--check"])[1].startswith(f'zoned: {config}:{lines}: "zone" must be '))
 
 
+def try_zone_transfers(folder, port):
+    """Who may transfer which zone: by its own rules, or without any by those for all zones."""
+    keys, config, one, two = (os.path.join(folder, it) for it in ("transfer_keys", "transfers.toml", "one.zone", "two.zone"))
+    open(keys, "w").write(KEYS)
+    for it in (one, two):
+        open(it, "w").write(SOA_AND_NS + WWW % 1)
+    zones = ["--zone", f"example.com={one}", "--zone", f"example.net={two}", "--keys", keys]
+
+    def ask(name, source, kind=252, sign=False):
+        message = query(name, kind)
+        return over_tcp(signed(message) if sign else message, f"127.0.0.{source}", port)
+
+    def who(sign=False):
+        """From which of two addresses each zone may be transferred: those of example.com, and those of example.net."""
+        given = [[it for it in (1, 2) if answers(ask(name, it, sign=sign)) == 4] for name in ("example.com", "example.net")]
+        refused = [[it for it in (1, 2) if code(ask(name, it, sign=sign)) == 5] for name in ("example.com", "example.net")]
+        return given if all(sorted(a + b) == [1, 2] for a, b in zip(given, refused)) else None
+
+    def tried(words):
+        host = start([*zones, *words], port)
+        ready = wait_for(port)
+        found = (who(), who(sign=True), code(ask("example.net", 1, 251)), code(ask("www.example.net", 1)), code(ask("www.example.net", 2))) if ready else None
+        host.terminate()
+        host.wait(15)
+        return found
+
+    a, b, key = ["--allow-transfer", "127.0.0.1"], ["--allow-transfer", "Example.NET.=127.0.0.2"], "--allow-transfer-key"
+    want("a zone with a rule of its own is transferred by that alone, and another by those for all", tried([*b, *a]) == ([[1], [2]], [[1], [2]], 5, 9, 5))
+    want("the key for all zones is for the others", tried([*b, key, "one.example"]) == ([[], [2]], [[1, 2], [2]], 5, 5, 5))
+    want("a key for a zone is for no other, and closes it to the networks for all", tried([*a, key, "example.net=one.example"]) == ([[1], []], [[1], [1, 2]], 5, 9, 5))
+    part = ["--allow-transfer", "127.0.0.0/8", "--deny-transfer", "127.0.0.2", "--allow-transfer", "example.net=127.0.0.0/8", "--deny-transfer", "example.net=127.0.0.1"]
+    want("a network of a zone that may not is for no other", tried(part) == ([[1], [2]], [[1], [2]], 5, 9, 5))
+    want("a zone that only denies is given to nobody", tried(["--allow-transfer", "127.0.0.0/8", "--deny-transfer", "example.net=127.0.0.1"])[0] == [[1, 2], []])
+    with open(config, "w") as it:
+        it.write(f'listen = "127.0.0.1@{port}"\nkeys = "{keys}"\nallow-transfer = "127.0.0.1"\n[[zone]]\nname = "example.com"\nfile = "{one}"\n')
+        it.write(f'[[zone]]\nname = "example.net"\nfile = "{two}"\nallow-transfer = ["127.0.0.0/8", "192.0.2.0/24"]\ndeny-transfer = "127.0.0.1"\nallow-transfer-key = "one.example"\n')
+    host = subprocess.Popen([ZONED, "--config", config])
+    want("rules of a zone in its table", wait_for(port) and (who(), who(sign=True)) == ([[1], [2]], [[1], [1, 2]]))
+    text = open(config).read()
+    open(config, "w").write(text + "deny-transfers = 1\n")
+    want("another key there is told with its line", told(["--config", config, "--check"])[1].startswith(f'zoned: {config}:13: "zone" must be '))
+    open(config, "w").write(text.replace('= "127.0.0.1"\nallow-transfer-key', '= "127.0.0.2"\nallow-transfer-key'))
+    host.send_signal(signal.SIGHUP)
+    time.sleep(0.7)
+    want("a reload changes them", wait_for(port) and who() == [[1], [1]])
+    host.terminate()
+    want("and it ends", host.wait(15) == 0)
+    faults = {
+        "a zone that is not served": ("--allow-transfer", "example.org=127.0.0.1", "there is no zone of this name"),
+        "what is no name of a zone": ("--deny-transfer", "a..b=127.0.0.1", "not the name of a zone"),
+        "a network that is none": ("--deny-transfer", "example.net=127.0.0.1/33", "the prefix is longer than the address"),
+        "a key that is not there": (key, "example.net=two.example", "there is no key of this name"),
+        "a key for a zone that is not served": (key, "example.org=one.example", "there is no zone of this name"),
+    }
+    for what, (option, word, says) in faults.items():
+        want(f"{what} is told, with option and word", told(["--check", *zones, option, word]) == (1, f'zoned: {option}: "{word}": {says}\n'))
+
+
 class Kept:
     """A server of example.com that keeps updates in a journal, in a new folder."""
 
@@ -1517,7 +1575,7 @@ def try_control(folder, port):
     want("status has a line for each process", status_is == 0 and said.startswith("zoned ") and all(f"process {it}" in said for it in (host.pid, *children(host.pid))))
     want("zones has the file of each zone", control(path, "zones") == (0, f"zone example.com={zone}\n"))
     status_is, said = control(path, "zonestatus", "EXAMPLE.com.")
-    want("zonestatus says when one was loaded", status_is == 0 and re.fullmatch(rf"zone: example.com\nstate: served\nloaded: \d{{4}}-\d\d-\d\d \d\d:\d\d:\d\d UTC\nfile: {zone}\n", said))
+    want("zonestatus says when one was loaded", status_is == 0 and re.fullmatch(rf"zone: example.com\nstate: served\nloaded: \d{{4}}-\d\d-\d\d \d\d:\d\d:\d\d UTC\nfile: {zone}\nserial: 7\nnotices-waiting: 0\n", said))
     status_is, said = control(path, "stats")
     names = ("queries", "udp", "tcp", "rcode.NOERROR", "unanswered.denied", "truncated", "sent_bytes", "journal_failures")
     want("stats has the counters", status_is == 0 and all(re.search(rf"^num\.{it}=\d+$", said, re.M) for it in names))
@@ -1891,6 +1949,7 @@ def main():
     try_joined(folder, PORT + 2)
     try_configuration(folder, zone, PORT + 2)
     try_keys(folder, zone, PORT + 2)
+    try_zone_transfers(folder, PORT + 2)
     for it in (try_journal, try_journal_clients, try_one_writer, try_journal_configuration, try_journal_limit, try_journal_at_once, try_journal_full, try_full_disks, try_journal_kills, try_crashes, try_journal_reloads, try_frozen, try_journal_control):
         it(folder, PORT + 4)
     try_control(folder, PORT + 2)

@@ -35,7 +35,8 @@ enum {
     ZONE_SERVICE_NO_ADDRESS = 6,   /* the source is not an address of 4 or 16 bytes */
     ZONE_SERVICE_FAULT = 7,        /* a setting is not taken; fault says why */
     ZONE_SERVICE_LIMITED = 8,      /* the reply to a datagram is dropped, since its network got as many as it may */
-    ZONE_SERVICE_NO_OPERATION = 9  /* not so many operations are noted of a file */
+    ZONE_SERVICE_NO_OPERATION = 9, /* not so many operations are noted of a file */
+    ZONE_SERVICE_NO_NOTICE = 10    /* no notice is due, or none is given up */
 };
 
 /* A reply is at most this long, with its length before it. A buffer of this size takes at least one. */
@@ -57,8 +58,8 @@ uint32_t zone_service_create(void **at);
 /* Frees a server, which is then gone. */
 void zone_service_free(zone_service service);
 
-/* Settings, made before the first message, in any order, with two exceptions: a list of blocked names is for the zones
- * that are added after it, and the keys come before what names one. Each returns DONE; or FAULT or MEMORY, and puts a
+/* Settings, made before the first message, in any order, with these exceptions: a list of blocked names is for the zones
+ * that are added after it, the keys come before what names one, and a zone before the rules of its transfers. Each returns DONE; or FAULT or MEMORY, and puts a
  * text that says why into fault, of at most room bytes and without a zero after it; *length is how many they are. After
  * DONE it is 0, unless lines of a list of blocked names were skipped. After FAULT and MEMORY the server is to be freed: a
  * list of networks may be as before or not, and zone_service_add_zone may have put its zone in place of another zone of
@@ -86,6 +87,9 @@ void zone_service_free(zone_service service);
  *     whom nobody may have one if no network is allowed.
  * zone_service_allow_transfer_key: the name of a key. Requests with a good signature by it have transfers from every
  *     address that may use the server.
+ * zone_service_set_zone_transfer_allowed, .._denied, zone_service_allow_zone_transfer_key: the same for the zone of a
+ *     name, which was added before; FAULT if there is none. A zone for which one of these is called is judged by them, and
+ *     no more by the three calls for all zones.
  * zone_service_set_max_udp: how many bytes a reply over UDP has at most, from 512 to 65,535; 1,232 if it is not called.
  * zone_service_set_rate_limit: how many replies to datagrams a network of clients (24 bits of IPv4, 56 of IPv6) gets in a
  *     second, and of how many above that one is sent without records and with TC, while the others are dropped (0: all
@@ -106,6 +110,12 @@ uint32_t zone_service_set_transfer_allowed(zone_service *service, const uint8_t 
                                            size_t *length);
 uint32_t zone_service_set_transfer_denied(zone_service *service, const uint8_t *network, size_t len, uint8_t *fault, size_t room,
                                           size_t *length);
+uint32_t zone_service_set_zone_transfer_allowed(zone_service *service, const uint8_t *zone, size_t zone_len, const uint8_t *network, size_t len,
+                                                uint8_t *fault, size_t room, size_t *length);
+uint32_t zone_service_set_zone_transfer_denied(zone_service *service, const uint8_t *zone, size_t zone_len, const uint8_t *network, size_t len,
+                                               uint8_t *fault, size_t room, size_t *length);
+uint32_t zone_service_allow_zone_transfer_key(zone_service *service, const uint8_t *zone, size_t zone_len, const uint8_t *name, size_t len,
+                                              uint8_t *fault, size_t room, size_t *length);
 uint32_t zone_service_set_max_udp(zone_service *service, uint16_t size, uint8_t *fault, size_t room, size_t *length);
 uint32_t zone_service_set_rate_limit(zone_service *service, uint32_t rate, uint32_t slip, uint8_t *fault, size_t room, size_t *length);
 uint32_t zone_service_set_identifier(zone_service *service, const uint8_t *text, size_t len, uint8_t *fault, size_t room, size_t *length);
@@ -113,8 +123,9 @@ uint32_t zone_service_set_identifier(zone_service *service, const uint8_t *text,
 /* Reads a configuration file in TOML 1.1: puts its settings to the front of out, the name and the value of each with a
  * zero after both, in the order of their names; *written is how many bytes they are. The host decides what a setting
  * means. A text is one value, a whole number that is not negative its digits, an array one value for each item, and a
- * table one, KEY=VALUE, for each member. An array of tables of the name zone gives zone, NAME=FILE, of each, and
- * allow-update, NAME=KEY RULE TYPE.., of each table of its update. names are the options that there are, each with a zero
+ * table one, KEY=VALUE, for each member. An array of tables of the name zone gives zone, NAME=FILE, of each,
+ * allow-update, NAME=KEY RULE TYPE.., of each table of its update, and allow-transfer, deny-transfer and
+ * allow-transfer-key, NAME=TEXT, of each text that it has under these names. names are the options that there are, each with a zero
  * after it. DONE; or FAULT or MEMORY, and a text in fault, as above: with the line if the file is no TOML, has a name of
  * no option, or a value of another kind; or if out has no room. */
 uint32_t zone_service_read_settings(const uint8_t *names, size_t names_len, const uint8_t *text, size_t len, uint8_t *out, size_t room, size_t *written,
@@ -189,6 +200,39 @@ uint32_t zone_service_operation(zone_service *service, size_t journal, uint32_t 
 void zone_service_operations_done(zone_service *service);
 void zone_service_stop_updates(zone_service *service, size_t journal);
 uint32_t zone_service_compact(zone_service *service, size_t journal, uint8_t *fault, size_t room, size_t *length);
+
+/* Notices that zones have changed (RFC 1996), over UDP. Times are milliseconds of a clock that does not go back. The caller
+ * has the sockets, and for each zone, in the order in which zones were added, the serial that was announced last, which
+ * is 2^64 - 1 if none was.
+ *
+ * zone_service_set_notify, a setting: who is told: no (nobody), explicit (the configured servers), or yes (these, and the
+ *     hosts of the zone's NS records whose addresses are in zones of this server, except the primary that the SOA record
+ *     names). It is explicit if it is not called.
+ * zone_service_also_notify, .._of, settings, after the zones: a server, ADDRESS[@PORT] with port 53 if there is none, that
+ *     is told of all zones, or of one that was added; one more by each call.
+ * zone_service_look, after zone_service_serve_zones and after the journals are opened, and again after updates: looks at
+ *     a zone. If it has another serial than *serial, it is announced to all that are told of it, and *serial is its
+ *     serial. What still waits of the zone is dropped. A zone without an SOA record is not announced. DONE; or MEMORY, and
+ *     nothing has changed.
+ * zone_service_notice: puts the notice that is due next to the front of out, and to whom it is sent: *len is how many of
+ *     the 16 bytes its address has, 4 or 16. It counts as sent with this id, which is to be random. A notice has less
+ *     than 2,048 bytes. DONE, NO_NOTICE, or MEMORY.
+ * zone_service_give_up: takes out a notice that got no answer, and puts a text that says so, *length bytes long. DONE, or
+ *     NO_NOTICE.
+ * zone_service_hear: a datagram came from this address and port. If it answers a notice, that is not sent again. If it
+ *     refuses it, a text says so, else *length is 0. DONE; NO_ADDRESS; or MEMORY, and the notice is sent again.
+ * zone_service_notices: when a notice is due or given up next, or 2^64 - 1 if none waits. *waiting is how many wait. */
+uint32_t zone_service_set_notify(zone_service *service, const uint8_t *text, size_t len, uint8_t *fault, size_t room, size_t *length);
+uint32_t zone_service_also_notify(zone_service *service, const uint8_t *text, size_t len, uint8_t *fault, size_t room, size_t *length);
+uint32_t zone_service_also_notify_of(zone_service *service, const uint8_t *zone, size_t zone_len, const uint8_t *text, size_t len,
+                                     uint8_t *fault, size_t room, size_t *length);
+uint32_t zone_service_look(zone_service *service, size_t number, uint64_t *serial, uint64_t now);
+uint32_t zone_service_notice(zone_service *service, uint64_t now, uint16_t id, uint8_t address[16], size_t *len, uint16_t *port,
+                             uint8_t *out, size_t room, size_t *written);
+uint32_t zone_service_give_up(zone_service *service, uint64_t now, uint8_t *text, size_t room, size_t *length);
+uint32_t zone_service_hear(zone_service *service, const uint8_t *source, size_t source_len, uint16_t port, const uint8_t *bytes,
+                           size_t len, uint8_t *text, size_t room, size_t *length);
+uint64_t zone_service_notices(zone_service *service, size_t *waiting);
 
 /* zone_service_set_query_log: the next message with replies and then one in so many has a line; none if that is 0, or
  *     it is not called.

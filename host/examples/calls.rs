@@ -84,6 +84,13 @@ fn settings() {
     service.deny_transfer("192.0.2.9").unwrap();
     service.answer(&query(b"example.com", 252), client(), Transport::Stream, 1, &mut out).unwrap();
     assert_eq!(out[5] & 15, 5);
+    assert_eq!(service.allow_zone_transfer("example.edu", "192.0.2.0/24").unwrap_err().0, "there is no zone of this name");
+    service.allow_zone_transfer("Example.com.", "192.0.2.0/24").unwrap();
+    service.answer(&query(b"example.com", 252), client(), Transport::Stream, 1, &mut out).unwrap();
+    assert_eq!(out[5] & 15, 0);
+    service.deny_zone_transfer("example.com", &format!("{}", client().ip())).unwrap();
+    service.answer(&query(b"example.com", 252), client(), Transport::Stream, 1, &mut out).unwrap();
+    assert_eq!(out[5] & 15, 5);
 }
 
 #[test]
@@ -94,6 +101,8 @@ fn keys() {
     service.set_keys(b"hmac-sha256:one.example:MTIzNDU2Nzg5MGFiY2RlZjEyMzQ1Njc4OTBhYmNkZWY=\n").unwrap();
     assert_eq!(service.allow_transfer_key("other.example").unwrap_err().0, "there is no key of this name");
     service.allow_transfer_key("one.example").unwrap();
+    assert_eq!(service.allow_zone_transfer_key("example.com", "other.example").unwrap_err().0, "there is no key of this name");
+    service.allow_zone_transfer_key("example.com", "one.example").unwrap();
     assert_eq!(service.allow_update("example.com", "two.example zone").unwrap_err().0, "there is no key of this name");
     service.allow_update("example.com", "one.example subdomain a.example.com A").unwrap();
     service.serve_zones().unwrap();

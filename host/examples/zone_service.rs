@@ -17,6 +17,8 @@ struct Raw {
 }
 
 type Set = unsafe extern "C" fn(*mut Raw, *const u8, usize, *mut u8, usize, *mut usize) -> u32;
+#[rustfmt::skip]
+type SetOfZone = unsafe extern "C" fn(*mut Raw, *const u8, usize, *const u8, usize, *mut u8, usize, *mut usize) -> u32;
 
 #[rustfmt::skip]
 unsafe extern "C" {
@@ -34,6 +36,9 @@ unsafe extern "C" {
     fn zone_service_set_denied(service: *mut Raw, network: *const u8, len: usize, fault: *mut u8, room: usize, length: *mut usize) -> u32;
     fn zone_service_set_transfer_allowed(service: *mut Raw, network: *const u8, len: usize, fault: *mut u8, room: usize, length: *mut usize) -> u32;
     fn zone_service_set_transfer_denied(service: *mut Raw, network: *const u8, len: usize, fault: *mut u8, room: usize, length: *mut usize) -> u32;
+    fn zone_service_set_zone_transfer_allowed(service: *mut Raw, zone: *const u8, zone_len: usize, network: *const u8, len: usize, fault: *mut u8, room: usize, length: *mut usize) -> u32;
+    fn zone_service_set_zone_transfer_denied(service: *mut Raw, zone: *const u8, zone_len: usize, network: *const u8, len: usize, fault: *mut u8, room: usize, length: *mut usize) -> u32;
+    fn zone_service_allow_zone_transfer_key(service: *mut Raw, zone: *const u8, zone_len: usize, name: *const u8, len: usize, fault: *mut u8, room: usize, length: *mut usize) -> u32;
     fn zone_service_set_max_udp(service: *mut Raw, size: u16, fault: *mut u8, room: usize, length: *mut usize) -> u32;
     fn zone_service_set_rate_limit(service: *mut Raw, rate: u32, slip: u32, fault: *mut u8, room: usize, length: *mut usize) -> u32;
     fn zone_service_set_identifier(service: *mut Raw, text: *const u8, len: usize, fault: *mut u8, room: usize, length: *mut usize) -> u32;
@@ -198,6 +203,16 @@ impl ZoneService {
         Self::told(set, &fault, length)
     }
 
+    #[rustfmt::skip]
+    fn set_of_zone(&mut self, call: SetOfZone, zone: &str, text: &str) -> Result<(), SettingFault> {
+        let (mut fault, mut length) = ([0; 256], 0);
+        // SAFETY: the server is ours alone, and the slices are apart.
+        let set = unsafe {
+            call(&mut self.0, zone.as_ptr(), zone.len(), text.as_ptr(), text.len(), fault.as_mut_ptr(), fault.len(), &mut length)
+        };
+        Self::told(set, &fault, length)
+    }
+
     /// Has the names that a text lists blocked in each zone that is added later. The text that it gives tells what was skipped, if anything was.
     #[rustfmt::skip]
     pub fn set_blocklist(&mut self, text: &[u8]) -> Result<String, SettingFault> {
@@ -220,14 +235,29 @@ impl ZoneService {
         self.set(zone_service_set_denied, network.as_bytes())
     }
 
-    /// Lets the addresses of a network have transfers.
+    /// Lets the addresses of a network have zones transferred that have no rules of their own.
     pub fn allow_transfer(&mut self, network: &str) -> Result<(), SettingFault> {
         self.set(zone_service_set_transfer_allowed, network.as_bytes())
     }
 
-    /// Keeps transfers from the addresses of a network.
+    /// Keeps transfers of these zones from the addresses of a network.
     pub fn deny_transfer(&mut self, network: &str) -> Result<(), SettingFault> {
         self.set(zone_service_set_transfer_denied, network.as_bytes())
+    }
+
+    /// Lets the addresses of a network have a zone transferred that was added.
+    pub fn allow_zone_transfer(&mut self, zone: &str, network: &str) -> Result<(), SettingFault> {
+        self.set_of_zone(zone_service_set_zone_transfer_allowed, zone, network)
+    }
+
+    /// Keeps a zone that was added from the addresses of a network.
+    pub fn deny_zone_transfer(&mut self, zone: &str, network: &str) -> Result<(), SettingFault> {
+        self.set_of_zone(zone_service_set_zone_transfer_denied, zone, network)
+    }
+
+    /// Lets requests that this key signed have a zone transferred that was added, from anywhere.
+    pub fn allow_zone_transfer_key(&mut self, zone: &str, name: &str) -> Result<(), SettingFault> {
+        self.set_of_zone(zone_service_allow_zone_transfer_key, zone, name)
     }
 
     /// Sets what identifies the server to clients that ask (RFC 5001).
@@ -274,14 +304,8 @@ impl ZoneService {
     }
 
     /// Lets the zone of this name take the updates that a rule grants: `KEY [zone|subdomain NAME|name NAME|self] [TYPE..]`.
-    #[rustfmt::skip]
     pub fn allow_update(&mut self, zone: &str, rule: &str) -> Result<(), SettingFault> {
-        let (mut fault, mut length) = ([0; 256], 0);
-        // SAFETY: the server is ours alone, and the slices are apart.
-        let set = unsafe {
-            zone_service_allow_update(&mut self.0, zone.as_ptr(), zone.len(), rule.as_ptr(), rule.len(), fault.as_mut_ptr(), fault.len(), &mut length)
-        };
-        Self::told(set, &fault, length)
+        self.set_of_zone(zone_service_allow_update, zone, rule)
     }
 
     /// Gives the zones that were added their rules, by which they take updates. After the last zone and rule, once.

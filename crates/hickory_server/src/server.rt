@@ -18,5 +18,5 @@ pub use hickory_base::server::{
     RecordRef, Request, RequestHandler, RequestInfo, ResponseHandler, ResponseInfo, encode_response,
 };
 pub use no_keys::NoKeys;
-pub use rules::{Rules, Ruling};
+pub use rules::{Rules, Ruling, ZoneTransfers};
 pub use service::Server;

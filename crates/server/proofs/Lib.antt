@@ -1,4 +1,5 @@
 pub mod Counted
+pub mod OwnRules
 pub mod Results
 pub mod Runs
 pub mod Streams

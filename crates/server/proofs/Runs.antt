@@ -829,7 +829,7 @@ module _ (handler : Ghosts ServedHandler) (signature_for : LeftToServer → Sign
     follow_error : (e : ServeError) (left : LeavesWithKeys (keyed handler signature_for service) (arrived message) e after) → Follow (taken_by_error handler signature_for service message e after left)
     follow_error e (inl (memory, kept)) = kept
     follow_error e (inr (inl leaves)) = (follow (rules_of service) service.answering.server.server.catalog message after are).1 e (leaves message (itself message))
-    follow_error e (inr (inr (memory, judgement, theirs, for_key, answer, served))) = of_rules theirs answer (served message (itself message))
+    follow_error e (inr (inr (memory, judgement, request, theirs, is_request, for_key, answer, served))) = of_rules theirs answer (served message (itself message))
 
     follow_outcome : (outcome : Result Answer ServeError) (answers : Answers handler signature_for service message outcome after) → Follow (taken handler signature_for service message outcome after answers)
     follow_outcome (Ok answer) answers = follow_answer answer answers

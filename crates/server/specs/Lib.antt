@@ -8,7 +8,9 @@ pub mod Limited
 pub mod Lists
 pub mod Logged
 pub mod Networks
+pub mod Notices
 pub mod Run
 pub mod Serving
 pub mod Settings
+pub mod Transfers
 pub mod Updates

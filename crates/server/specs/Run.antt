@@ -205,7 +205,7 @@ module _ (handler : Ghosts ServedHandler) (signature_for : LeftToServer → Sign
   taken_by_error service message e zones (inl _) = None
   taken_by_error service message e zones (inr (inl left)) =
       taken_without_reply (rules_of service).access (server_of handler signature_for service.answering.server.server.catalog) message zones e (left message (itself message))
-  taken_by_error service message e zones (inr (inr (_, _, _, _, _, served))) = taken_in (served message (itself message))
+  taken_by_error service message e zones (inr (inr (_, _, _, _, _, _, _, served))) = taken_in (served message (itself message))
 
   abbrev pub taken : (service : Service) (message : Incoming) (outcome : Result Answer ServeError) (zones : ZoneChains ServedHandler) → Answers service message outcome zones → Taken
   taken service message (Ok answer) zones answers = taken_by_answer service message answer zones answers

@@ -3,6 +3,7 @@ use Rattle.std.specs.Prelude.{◌≡◌, [], ℕ, List, None, Option, Vec}
 use Rattle.std.specs.Global.{Global}
 use Rattle.hickory_server.specs.declared.server.rules.Rules.{Rules}
 use Rattle.server_reports.specs.Counting.{no_counts}
+use Rattle.served_notices.specs.Notifying.{IsNew}
 use Rattle.served_zones.specs.ServedZones.{Chain}
 use Rattle.served_keys.specs.ServedKeys.{all_networks}
 use Rattle.server_limits.specs.Access.{SameNetworks}
@@ -54,12 +55,13 @@ with_identifier service identifier = record service {
 abbrev pub with_keys : Service → List Key → Service
 with_keys service keys = record service { answering = record service.answering { server = record service.answering.server { keys = keys } } }
 
--- the server with these names of keys that may have transfers from anywhere
+-- the server with these names of keys that may have zones from anywhere that have no rules of their own
 abbrev pub with_transfer_keys : Service → Vec DomainName Global → Service
 with_transfer_keys service names = record service { answering = record service.answering { server = record service.answering.server { transfer_keys = names } } }
 
 -- A server before its first setting: it has no zones, keys, rules of updates and limits, everybody may use it, nobody may
--- have transfers (RFC 5936 section 5), and a reply over UDP has at most 1232 bytes.
+-- have transfers (RFC 5936 section 5), no zone has rules of its own of them, a reply over UDP has at most 1232 bytes,
+-- and nobody is told of changes.
 pub record IsUnset (service : Service) : Type 0 where
   pub no_zones : zones_of service ≡ []
   pub no_identifier : service.answering.server.server.catalog.nsid ≡ None
@@ -69,6 +71,7 @@ pub record IsUnset (service : Service) : Type 0 where
   pub none_allowed : HasNoNetwork (rules_of service).access.allow
   pub transfers_denied : SameNetworks all_networks (rules_of service).transfers.deny
   pub no_transfer_allowed : HasNoNetwork (rules_of service).transfers.allow
+  pub no_own_rules : (rules_of service).zones.items ≡ []
   pub max_udp : (rules_of service).max_udp ≡ 1232
   pub nothing_waits : waiting_in service.answering ≡ []
   pub no_log : service.answering.log.every ≡ 0
@@ -78,3 +81,4 @@ pub record IsUnset (service : Service) : Type 0 where
   pub no_grants : service.grants.items ≡ []
   pub no_list : service.list ≡ None
   pub no_journals : service.journals.items ≡ []
+  pub nobody_told : IsNew service.notifying

@@ -13,6 +13,7 @@ ghost use Rattle.wire_names.specs.rr.domain.NameOrder.{lower_name};
 
 use crate::answering::Answering;
 use crate::settings::{SettingFault, blocklist, key_name, network, zone_name, zone_rule};
+use crate::transfers::nobody;
 use crate::updates::see_zones;
 use hickory_server::access::AccessControl;
 use hickory_server::proto::{LowerName, Name};
@@ -24,11 +25,11 @@ use journal::host_file::HostFile;
 use name_lists::ListReport;
 use served_keys::files::keys_of_file;
 use served_keys::networks::{parts, with_all};
+use served_notices::Notifying;
 use served_zones::chains::{chain, put_chain};
 use served_zones::grants::{Grant, grant_updates};
 use served_zones::handler::{self, Zones};
 use served_zones::identifier::identifier;
-use served_zones::networks;
 use served_zones::zone_files::zone_of_file;
 use server_limits::RateLimits;
 use server_reports::Counters;
@@ -41,18 +42,19 @@ use tsig::Keys;
 pub type Handler = handler::Handler<HostFile>;
 
 /// A server, with what it has done in numbers, how many replies networks get, the names of the apexes of its zones in
-/// the order of the calls, the rules of who may update which zone, and the list of blocked names for zones that are
-/// still to come.
+/// the order of the calls, the rules of who may update which zone, the list of blocked names for zones that are still to
+/// come, and who is told that zones have changed.
 #[derive(Drop)]
 pub struct Service {
     pub answering: Answering<LeftToServer, Handler>,
     pub counters: Counters,
     pub limits: Option<RateLimits>,
-    apexes: Vec<Name>,
+    pub(crate) apexes: Vec<Name>,
     grants: Vec<Grant>,
     list: Option<Rc<BlocklistZoneHandler>>,
     /// The names of the apexes of the zones that have a journal, in the order in which the journals were opened.
     pub(crate) journals: Vec<LowerName>,
+    pub notifying: Notifying,
 }
 
 /// Puts the chain of a zone at its apex. After `ZoneTwice` the zone is there, and the one that was there is gone.
@@ -95,7 +97,11 @@ fn load(
 }
 
 /// Allows the network that a text spells. Addresses that no network allows are denied.
-fn allow_only(alloc: Global, access: &mut AccessControl, text: &[u8]) -> Result<(), SettingFault>
+pub(crate) fn allow_only(
+    alloc: Global,
+    access: &mut AccessControl,
+    text: &[u8],
+) -> Result<(), SettingFault>
     ensures { OnOk result (AllowsText text.now access.old access.new) }
 {
     let network = network(text)?;
@@ -115,12 +121,12 @@ fn empty_server(alloc: Global) -> Result<SignedServer<LeftToServer, Handler>, Al
     ensures allowed { IfOk result (λ made. HasNoNetwork made.server.rules.access.allow) }
     ensures transfers_denied { IfOk result (λ made. SameNetworks all_networks made.server.rules.transfers.deny) }
     ensures transfers_allowed { IfOk result (λ made. HasNoNetwork made.server.rules.transfers.allow) }
+    ensures own_rules { IfOk result (λ made. made.server.rules.zones.items ≡ []) }
     ensures limit { IfOk result (λ made. made.server.rules.max_udp ≡ 1232) }
 {
     let catalog = Catalog::new(alloc, LeftToServer);
-    let all = with_all(alloc, &[])?;
     let mut rules = Rules::new(alloc);
-    rules.transfers = networks::access(alloc, all.as_slice(), &[])?;
+    rules.transfers = nobody(alloc)?;
     let server = Server::new(alloc, rules, catalog)?;
     let signed = SignedServer::new(alloc, server, Keys::new(alloc))?;
     Ok(signed)
@@ -144,6 +150,7 @@ impl Service {
             grants: Vec::new(alloc),
             list: None,
             journals: Vec::new(alloc),
+            notifying: Notifying::new(alloc),
         })
     }
 
@@ -196,7 +203,8 @@ impl Service {
         Ok(())
     }
 
-    /// Lets requests that a key of this name signed have transfers from anywhere.
+    /// Lets requests that a key of this name signed have zones transferred from anywhere that have no rules of their
+    /// own.
     pub fn allow_transfer_key(&mut self, alloc: Global, text: &[u8]) -> Result<(), SettingFault>
         ensures ok { OnOk result ((name : DomainName) × IsKeyNamed self.old.answering.server.keys text.now name ×
             (self.new.answering.server.transfer_keys.items ≡
@@ -265,7 +273,8 @@ impl Service {
         Ok(denied.insert_deny(&[network])?)
     }
 
-    /// Lets the addresses of a network have transfers, if they may use the server.
+    /// Lets the addresses of a network have zones transferred that have no rules of their own, if they may use the
+    /// server.
     pub fn allow_transfer(&mut self, alloc: Global, text: &[u8]) -> Result<(), SettingFault>
         ensures ok { OnOk result (AllowsText text.now (rules_of self.old).transfers (rules_of self.new).transfers) }
         ensures others { self.new ≡ with_rules self.old
@@ -278,7 +287,8 @@ impl Service {
         )
     }
 
-    /// Keeps transfers from the addresses of a network, which is part of an allowed one.
+    /// Keeps transfers of zones that have no rules of their own from the addresses of a network, which is part of an
+    /// allowed one.
     pub fn deny_transfer(&mut self, text: &[u8]) -> Result<(), SettingFault>
         ensures ok { OnOk result
             (InsertsText text.now (rules_of self.old).transfers.deny (rules_of self.new).transfers.deny) }

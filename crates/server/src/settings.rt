@@ -1,12 +1,13 @@
 //! The settings of a server before its first message, and why one is not taken.
 
-ghost use Rattle.std.specs.Prelude.{◌≡◌, IfOk, Some};
+ghost use Rattle.std.specs.Prelude.{◌≡◌, IfOk, Some, option_copied};
 ghost use Rattle.server_limits.specs.NetworkTexts.{IsNetworkText};
 ghost use Rattle.served_zones.specs.Grants.{IsGrantOf};
 ghost use Rattle.served_zones.specs.ServedZones.{IsApexText};
 ghost use Rattle.served_keys.specs.ServedKeys.{IsKeyNamed};
 ghost use Rattle.server.specs.Faults.{of_identifier, of_journal, of_key_name, of_keys, of_rule, of_zone};
 ghost use Rattle.server.specs.Lists.{IsListOfText};
+ghost use Rattle.server.specs.Notices.{IsSecondaryText, IsZoneText};
 ghost use Rattle.server.specs.declared.settings.SettingFault.TheVariants as setting_fault;
 
 use hickory_server::access::{IpNet, IpNetTextError};
@@ -15,6 +16,7 @@ use hickory_server::store::blocklist::BlocklistZoneHandler;
 use name_lists::ListReport;
 use served_keys::files::KeysFault;
 use served_keys::names::{KeyNameFault, key_named};
+use served_notices::{Secondary, TargetFault, read_target};
 use served_zones::chains::apex;
 use served_zones::grants::{Grant, GrantFault, zone_grant};
 use served_zones::identifier::IdentifierFault;
@@ -60,6 +62,9 @@ pub enum SettingFault {
     /// Two texts are no rule of a zone.
     #[error("{0}")]
     Rule(GrantFault),
+    /// No zone of this name was added.
+    #[error("there is no zone of this name")]
+    NoZone,
     /// A rule is of no zone that was added.
     #[error("rule {number} of who may update is for a zone that is not served")]
     RuleWithoutZone {
@@ -72,6 +77,12 @@ pub enum SettingFault {
     /// The zone has a journal.
     #[error("the zone has a journal already")]
     JournalTwice,
+    /// A text is no server that can be told of changes.
+    #[error("{0}")]
+    Target(TargetFault),
+    /// A word does not say who is told of changes.
+    #[error("not yes, explicit or no")]
+    NotifyMode,
     /// A text is not UTF-8.
     #[error("not UTF-8")]
     NotUtf8,
@@ -151,6 +162,14 @@ impl From<KeyNameFault> for SettingFault {
     }
 }
 
+impl From<TargetFault> for SettingFault {
+    ghost from_gives = { λ fault e. e ≡ setting_fault.Target fault };
+
+    fn from(e: TargetFault) -> SettingFault {
+        SettingFault::Target(e)
+    }
+}
+
 impl From<GrantFault> for SettingFault {
     ghost from_gives = { λ fault e. e ≡ of_rule fault };
 
@@ -204,6 +223,25 @@ pub fn zone_rule(
     let zone = text_of(zone)?;
     let rule = text_of(rule)?;
     Ok(zone_grant(alloc, keys, zone, rule)?)
+}
+
+/// The name of a zone that a text spells, if there is a text.
+fn zone_if_any(alloc: Global, zone: Option<&[u8]>) -> Result<Option<Name>, SettingFault>
+    ensures { IfOk result (IsZoneText (option_copied zone.entry)) }
+{
+    match zone {
+        Some(text) => Ok(Some(zone_name(alloc, text)?)),
+        None => Ok(None),
+    }
+}
+
+/// The server that a text spells, which is told of the zone of this name, or of all zones.
+pub fn secondary(alloc: Global, zone: Option<&[u8]>, text: &[u8]) -> Result<Secondary, SettingFault>
+    ensures { IfOk result (IsSecondaryText (option_copied zone.entry) text.now) }
+{
+    let apex = zone_if_any(alloc, zone)?;
+    let target = read_target(text_of(text)?)?;
+    Ok(Secondary { apex, target })
 }
 
 /// The network that a text spells.

@@ -18,7 +18,7 @@ pub const DONE: u32 = 0;
 pub const MEMORY: u32 = 4;
 
 /// The source is no address.
-const NO_ADDRESS: u32 = 6;
+pub const NO_ADDRESS: u32 = 6;
 
 /// The number of a refusal.
 fn number(refusal: Refusal) -> u32
@@ -34,7 +34,7 @@ fn number(refusal: Refusal) -> u32
 }
 
 /// The address of four or sixteen bytes.
-fn ip_address(bytes: &[u8]) -> Option<IpAddr>
+pub fn ip_address(bytes: &[u8]) -> Option<IpAddr>
     ensures some { IfSome result (IsAddress bytes.now) }
     ensures none { IsNone result → IsNoAddress bytes.now }
 {

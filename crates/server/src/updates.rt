@@ -10,7 +10,7 @@ use hickory_server::proto::Name;
 use served_zones::grants::Grant;
 
 /// Whether a zone of this name was added.
-fn is_added(apexes: &[Name], apex: &Name) -> bool
+pub(crate) fn is_added(apexes: &[Name], apex: &Name) -> bool
     ensures { result ≡ spec.is_added apexes.now apex.now }
 {
     apexes.contains(apex)

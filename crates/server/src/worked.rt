@@ -1,12 +1,18 @@
 //! Worked examples: what the calls of a server make is a run, and what settings are by their texts.
 
 ghost use Rattle.std.specs.Prelude.{◌≡◌, ◌∷◌, [], IfOk, IsOk, List, None, OnErr, OnOk, Result, codes, take, true};
+ghost use Rattle.hickory_base.specs.declared.requests.message_request.MessageRequest.{MessageRequest};
 ghost use Rattle.hickory_server.specs.declared.server.answer.Answer.{Answer};
+ghost use Rattle.hickory_server.specs.declared.server.rules.Rules.{Rules};
+ghost use Rattle.hickory_server.specs.declared.server.rules.ZoneTransfers.{ZoneTransfers};
 ghost use Rattle.hickory_server.specs.declared.server.serve.ServeError.{ServeError};
+ghost use Rattle.hickory_server.specs.server.Ruling.{transfers_for};
 ghost use Rattle.served_keys.specs.ServedKeys.{IsKeyName};
+ghost use Rattle.signed_server.specs.ServedWithKeys.{keys_for};
 ghost use Rattle.server.specs.Run.{Event, Run, StreamGoesOn};
 ghost use Rattle.server.specs.Run.Event.{batch_begun, batch_ended, journal_failed, journal_opened, keys_set, list_set, message_came, other_set, rule_added, rules_given, updates_stopped, zone_added, zone_failed};
 ghost use Rattle.server.specs.Settings.{rules_of, with_rules};
+ghost use Rattle.server.specs.Transfers.{below, named, transfer_of};
 ghost use Rattle.server_limits.specs.Access.{Network};
 ghost use Rattle.server_limits.specs.NetworkTexts.{IsNetworkText};
 ghost use Rattle.server_limits.specs.declared.access_control.Family.TheVariants.{Ipv4};
@@ -69,6 +75,50 @@ pub fn worked_setting(alloc: Global, service: &mut Service, key: &[u8]) -> Resul
 {
     service.allow_transfer_key(alloc, key)
 }
+
+/// A server that takes three rules of who may have a zone transferred.
+pub fn worked_zone_transfers(
+    alloc: Global,
+    service: &mut Service,
+    zone: &[u8],
+    network: &[u8],
+    part: &[u8],
+    key: &[u8],
+) -> Result<(), SettingFault>
+    ensures { OnOk result ((events : List Event) →
+        Run ⟦<Handler as ZoneHandler>⟧ ⟦<LeftToServer as ReplySigner>⟧.signature_for events service.old →
+        Run ⟦<Handler as ZoneHandler>⟧ ⟦<LeftToServer as ReplySigner>⟧.signature_for
+        (other_set ∷ other_set ∷ other_set ∷ events) service.new) }
+{
+    service.allow_zone_transfer(alloc, zone, network)?;
+    service.deny_zone_transfer(alloc, zone, part)?;
+    service.allow_zone_transfer_key(alloc, zone, key)
+}
+
+/// A zone that has rules of its own, in any letter case of its name, is judged by them alone: who may have another zone
+/// may not for that have this one, and neither may the key for all zones.
+pub fn worked_own_rules()
+    ensures networks { (rules : Rules) (zone : ZoneTransfers) (message : MessageRequest) →
+        zone.apex ≡ named (codes "example") → rules.zones.items ≡ zone ∷ [] →
+        message.queries.queries ≡ transfer_of (named (codes "EXAMPLE")) ∷ [] →
+        transfers_for rules message ≡ zone.access }
+    ensures keys { (names : List DomainName) (rules : Rules) (zone : ZoneTransfers) (message : MessageRequest) →
+        zone.apex ≡ named (codes "example") → rules.zones.items ≡ zone ∷ [] →
+        message.queries.queries ≡ transfer_of (named (codes "EXAMPLE")) ∷ [] →
+        keys_for names rules message ≡ zone.keys.items }
+{}
+
+/// A zone without rules of its own is judged by those for all zones, also if it is below one that has some.
+pub fn worked_common_rules()
+    ensures networks { (rules : Rules) (zone : ZoneTransfers) (message : MessageRequest) →
+        zone.apex ≡ named (codes "example") → rules.zones.items ≡ zone ∷ [] →
+        message.queries.queries ≡ transfer_of (below (codes "a") (codes "example")) ∷ [] →
+        transfers_for rules message ≡ rules.transfers }
+    ensures keys { (names : List DomainName) (rules : Rules) (zone : ZoneTransfers) (message : MessageRequest) →
+        zone.apex ≡ named (codes "example") → rules.zones.items ≡ zone ∷ [] →
+        message.queries.queries ≡ transfer_of (below (codes "a") (codes "example")) ∷ [] →
+        keys_for names rules message ≡ names }
+{}
 
 /// A server that answers a message, or does not answer it.
 pub fn worked_message(

@@ -67,7 +67,7 @@ abbrev pub join : Option (List Pair) → Option (List Pair) → Option (List Pai
 join (Some front) (Some back) = Some (front ++ back)
 join _ _ = None
 
--- ---- zones, as tables: each has a name, a file, and the rules of who may update what
+-- ---- zones, as tables: each has a name, a file, and the rules of who may update what and have it transferred
 
 -- the key is one of three
 abbrev pub is_one_of : List ℕ → List ℕ → List ℕ → List ℕ → Bool
@@ -125,16 +125,54 @@ updates_in zone None = Some []
 updates_in zone (Some (array ds)) = update_texts zone ds
 updates_in zone (Some d) = None
 
--- a zone: the setting `zone`, which is `NAME=FILE`, and a setting `allow-update` for each of its rules
-abbrev pub zone_entry : Option (List ℕ) → Option (List ℕ) → Option Data → Option (List Pair)
-zone_entry (Some name) (Some file) updates =
-    join (Some (under (codes "zone") ((name ++ codes "=" ++ file) ∷ []))) (option_map (under (codes "allow-update")) (updates_in name updates))
-zone_entry _ _ updates = None
+-- the text `ZONE=TEXT` of a value
+abbrev pub rule_text : List ℕ → Data → Option (List ℕ)
+rule_text zone d = assigned zone (text_of d)
 
--- the zone of a table: `name`, `file` and `update`, an array of rules
+-- those of an array
+abbrev pub rule_texts : List ℕ → Items → Option (List (List ℕ))
+rule_texts zone no_items = Some []
+rule_texts zone (item d ds) = with_text (rule_text zone d) (rule_texts zone ds)
+
+-- those under a key of a table: a text, or an array; none where there is none
+abbrev pub rules_at : List ℕ → Option Data → Option (List (List ℕ))
+rules_at zone None = Some []
+rules_at zone (Some (array ds)) = rule_texts zone ds
+rules_at zone (Some d) = with_text (rule_text zone d) (Some [])
+
+-- the settings of an option that the table of a zone has under its name
+abbrev pub rules_in : List ℕ → List ℕ → Data → Option (List Pair)
+rules_in option zone d = option_map (under option) (rules_at zone (get option d))
+
+-- the settings of its transfers
+abbrev pub transfer_rules : List ℕ → Data → Option (List Pair)
+transfer_rules zone d =
+    join (join (rules_in (codes "allow-transfer") zone d) (rules_in (codes "deny-transfer") zone d)) (rules_in (codes "allow-transfer-key") zone d)
+
+-- a zone: the setting `zone`, which is `NAME=FILE`, a setting `allow-update` for each of its rules, and those of its
+-- transfers
+abbrev pub zone_entry : Option (List ℕ) → Option (List ℕ) → Data → Option (List Pair)
+zone_entry (Some name) (Some file) d =
+    join (join (Some (under (codes "zone") ((name ++ codes "=" ++ file) ∷ []))) (option_map (under (codes "allow-update")) (updates_in name (get (codes "update") d))))
+    (transfer_rules name d)
+zone_entry _ _ d = None
+
+-- the key is one that the table of a zone may have
+abbrev pub is_of_zone : List ℕ → Bool
+is_of_zone key = is_one_of key (codes "file") (codes "name") (codes "update") || is_one_of key (codes "allow-transfer") (codes "deny-transfer") (codes "allow-transfer-key")
+
+abbrev pub of_zone_only : Members → Bool
+of_zone_only no_members = true
+of_zone_only (member key d ms) = is_of_zone key && of_zone_only ms
+
+abbrev pub is_table_of_zone : Data → Bool
+is_table_of_zone (table ms) = of_zone_only ms
+is_table_of_zone d = false
+
+-- the zone of a table: `name`, `file`, `update`, an array of rules, and `allow-transfer`, `deny-transfer` and
+-- `allow-transfer-key`, each a text or an array
 abbrev pub zone_of_table : Data → Option (List Pair)
-zone_of_table d = cond (is_table_of (codes "file") (codes "name") (codes "update") d)
-    (zone_entry (text_at (codes "name") d) (text_at (codes "file") d) (get (codes "update") d)) None
+zone_of_table d = cond (is_table_of_zone d) (zone_entry (text_at (codes "name") d) (text_at (codes "file") d) d) None
 
 -- one zone: a table, or a text, which is the value itself
 abbrev pub zone_settings : Data → Option (List Pair)

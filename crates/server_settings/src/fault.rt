@@ -33,7 +33,7 @@ pub enum SettingsFault {
     },
     /// The value of `zone` gives it none: it is of another kind, or has a table with another key, or with a value of
     /// another kind under one of these.
-    #[error("{line}: \"zone\" must be texts, a table of them, or tables with name, file and update, which has tables with key, rule and types")]
+    #[error("{line}: \"zone\" must be texts, a table of them, or tables with name, file, allow-transfer, deny-transfer, allow-transfer-key and update, which has tables with key, rule and types")]
     WrongZone {
         /// The line with which the document has it, from 1.
         line: usize,

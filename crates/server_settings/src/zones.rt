@@ -1,7 +1,7 @@
 //! Zones of a document that are tables, as settings.
 
 ghost use Rattle.std.specs.Prelude.{◌≡◌, ◌++◌, ◌∷◌, [], IfOk, MatchOption, codes, map, option_map, string_bytes, true, false};
-ghost use Rattle.server_settings.specs.Settings.{has_only, is_one_of, is_table_of, said, text_at, under, update_text, update_texts, updates_in, words_in, words_of, zone_of_table, zone_settings, zones_settings};
+ghost use Rattle.server_settings.specs.Settings.{has_only, is_of_zone, is_one_of, is_table_of, is_table_of_zone, of_zone_only, rule_text, rule_texts, rules_in, said, text_at, transfer_rules, under, update_text, update_texts, updates_in, words_in, words_of, zone_of_table, zone_settings, zones_settings};
 ghost use Rattle.toml.specs.View.{array_view, table_view, view};
 
 use crate::reading::Setting;
@@ -35,6 +35,36 @@ fn is_table_of(value: &Value, a: &str, b: &str, c: &str) -> bool
 {
     match value {
         Value::Table(members) => has_only(members, a, b, c),
+        _ => false,
+    }
+}
+
+/// Whether a key is one that the table of a zone may have.
+fn is_of_zone(key: &str) -> bool
+    ensures { result ≡ is_of_zone key.now }
+{
+    is_one_of(key, "file", "name", "update")
+        || is_one_of(key, "allow-transfer", "deny-transfer", "allow-transfer-key")
+}
+
+/// Whether each key of a table is one that the table of a zone may have.
+fn of_zone_only(members: &Table) -> bool
+    ensures { result ≡ of_zone_only (table_view members.now) }
+{
+    for (key, _) in members.iter() {
+        if !is_of_zone(key.as_str()) {
+            return false;
+        }
+    }
+    true
+}
+
+/// Whether a value is a table, each key of which is one that the table of a zone may have.
+fn is_table_of_zone(value: &Value) -> bool
+    ensures { result ≡ is_table_of_zone (view value.now) }
+{
+    match value {
+        Value::Table(members) => of_zone_only(members),
         _ => false,
     }
 }
@@ -87,7 +117,7 @@ fn put_words_in(alloc: Global, words: Option<&Value>, made: &mut String) -> Resu
 }
 
 /// The text `ZONE=KEY RULE`.
-fn rule_text(alloc: Global, zone: &str, key: &str, rule: &str) -> Result<String, AllocError>
+fn update_rule(alloc: Global, zone: &str, key: &str, rule: &str) -> Result<String, AllocError>
     ensures { IfOk result (λ made. string_bytes made ≡ (zone.now ++ codes "=" ++ key.now) ++ codes " " ++ rule.now) }
 {
     let mut made = assigned(alloc, zone, key)?;
@@ -108,7 +138,7 @@ fn update_text(alloc: Global, zone: &str, table: &Value) -> Result<Option<String
     let Some(rule) = text_at(alloc, table, "rule")? else {
         return Ok(None);
     };
-    let mut made = rule_text(alloc, zone, key.as_str(), rule.as_str())?;
+    let mut made = update_rule(alloc, zone, key.as_str(), rule.as_str())?;
     if put_words_in(alloc, table.get("types"), &mut made)? {
         Ok(Some(made))
     } else {
@@ -176,13 +206,103 @@ fn put_updates_in(
     }
 }
 
+/// The text `ZONE=TEXT` of a value.
+fn rule_text(alloc: Global, zone: &str, value: &Value) -> Result<Option<String>, AllocError>
+    ensures { IfOk result (λ made. option_map string_bytes made ≡ rule_text zone.now (view value.now)) }
+{
+    match text_of(alloc, value)? {
+        Some(text) => Ok(Some(assigned(alloc, zone, text.as_str())?)),
+        None => Ok(None),
+    }
+}
+
+/// Puts a setting of an option last, `ZONE=TEXT` of a value. Tells whether the value is a text or a number; else none
+/// is put.
+fn put_rule(
+    alloc: Global,
+    option: &str,
+    zone: &str,
+    value: &Value,
+    settings: &mut Vec<Setting>,
+) -> Result<bool, AllocError>
+    ensures { IfOk result (λ taken. MatchOption (rule_text zone.now (view value.now)) (taken ≡ false)
+        (λ text. (taken ≡ true) × (map said settings.new.items ≡ map said settings.old.items ++ under option.now
+        (text ∷ [])))) }
+{
+    match rule_text(alloc, zone, value)? {
+        Some(text) => {
+            put_text(alloc, option, text, settings)?;
+            Ok(true)
+        }
+        None => Ok(false),
+    }
+}
+
+/// Puts a setting of an option last of each item of an array. Tells whether each is a text or a number; else settings
+/// may have been put.
+fn put_rules(
+    alloc: Global,
+    option: &str,
+    zone: &str,
+    items: &Array,
+    settings: &mut Vec<Setting>,
+) -> Result<bool, AllocError>
+    ensures { IfOk result (λ taken. MatchOption (rule_texts zone.now (array_view items.now)) (taken ≡ false)
+        (λ texts. (taken ≡ true) × (map said settings.new.items ≡ map said settings.old.items ++ under option.now
+        texts))) }
+{
+    for item in items {
+        if !put_rule(alloc, option, zone, item, settings)? {
+            return Ok(false);
+        }
+    }
+    Ok(true)
+}
+
+/// Puts the settings of an option last of a zone whose table has it. Tells whether its value is a text, a number or an
+/// array of these; else settings may have been put.
+fn put_rules_in(
+    alloc: Global,
+    option: &str,
+    zone: &str,
+    table: &Value,
+    settings: &mut Vec<Setting>,
+) -> Result<bool, AllocError>
+    ensures { IfOk result (λ taken. MatchOption (rules_in option.now zone.now (view table.now)) (taken ≡ false)
+        (λ those. (taken ≡ true) × (map said settings.new.items ≡ map said settings.old.items ++ those))) }
+{
+    match table.get(option) {
+        None => Ok(true),
+        Some(Value::Array(items)) => put_rules(alloc, option, zone, items, settings),
+        Some(one) => put_rule(alloc, option, zone, one, settings),
+    }
+}
+
+/// Puts the settings of the transfers of a zone last whose table has them. Tells whether their values are texts,
+/// numbers or arrays of these; else settings may have been put.
+fn put_transfer_rules(
+    alloc: Global,
+    zone: &str,
+    table: &Value,
+    settings: &mut Vec<Setting>,
+) -> Result<bool, AllocError>
+    ensures { IfOk result (λ taken. MatchOption (transfer_rules zone.now (view table.now)) (taken ≡ false)
+        (λ those. (taken ≡ true) × (map said settings.new.items ≡ map said settings.old.items ++ those))) }
+{
+    Ok(
+        put_rules_in(alloc, "allow-transfer", zone, table, settings)?
+            && put_rules_in(alloc, "deny-transfer", zone, table, settings)?
+            && put_rules_in(alloc, "allow-transfer-key", zone, table, settings)?,
+    )
+}
+
 /// Puts the settings of a zone last that is a table. Tells whether it is one of a zone; else settings may have been
 /// put.
 fn put_table(alloc: Global, table: &Value, settings: &mut Vec<Setting>) -> Result<bool, AllocError>
     ensures { IfOk result (λ taken. MatchOption (zone_of_table (view table.now)) (taken ≡ false)
         (λ those. (taken ≡ true) × (map said settings.new.items ≡ map said settings.old.items ++ those))) }
 {
-    if !is_table_of(table, "file", "name", "update") {
+    if !is_table_of_zone(table) {
         return Ok(false);
     }
     let Some(name) = text_at(alloc, table, "name")? else {
@@ -193,7 +313,10 @@ fn put_table(alloc: Global, table: &Value, settings: &mut Vec<Setting>) -> Resul
     };
     let text = assigned(alloc, name.as_str(), file.as_str())?;
     put_text(alloc, "zone", text, settings)?;
-    put_updates_in(alloc, name.as_str(), table.get("update"), settings)
+    Ok(
+        put_updates_in(alloc, name.as_str(), table.get("update"), settings)?
+            && put_transfer_rules(alloc, name.as_str(), table, settings)?,
+    )
 }
 
 /// Puts the settings of a zone last. Tells whether it is a table of a zone, a text or a number; else settings may have

@@ -8,7 +8,8 @@ use Rattle.hickory_server.specs.declared.server.rules.Rules.{Rules}
 use Rattle.tsig.specs.declared.keys.Key.{Key}
 use Rattle.signed_server.specs.declared.service.SignedServer.{SignedServer}
 
--- A server with its keys, of which those of these names may have transfers from anywhere, and with its rules.
+-- A server with its keys, of which those of these names may have the zones from anywhere that have no rules of their own,
+-- and with its rules.
 pub record KeyedServer (H : Type 0) : Type 1 where
   pub keys : List Key
   pub transfer_keys : List DomainName

@@ -1,6 +1,7 @@
 -- What becomes of a message at a server with keys (RFC 8945 section 5.2).
 use Rattle.std.specs.Prelude.{◌≡◌, ◌≤◌, ◌⊎◌, ℕ, Bool, true, false, List, [], get_or, length, Contains}
 use Rattle.std.specs.List.{list_any}
+use Rattle.std.specs.Option.{option_map_or}
 use Rattle.std.specs.Net.Socket.{socket_ip}
 use Rattle.std.specs.declared.net.SocketAddr.{SocketAddr}
 use Rattle.wire_names.specs.rr.domain.DomainName.{DomainName}
@@ -9,8 +10,9 @@ use Rattle.wire_names.specs.declared.error.ProtoError.{ProtoError}
 use Rattle.server_limits.specs.Access.{IsAllowed, Network}
 use Rattle.hickory_base.specs.requests.RequestReading.{IsFaultOf}
 use Rattle.hickory_base.specs.requests.Requests.{ReceivedRequest}
+use Rattle.hickory_base.specs.declared.requests.message_request.MessageRequest.{MessageRequest}
 use Rattle.hickory_server.specs.server.FormErrors.{IsFormError}
-use Rattle.hickory_server.specs.server.Ruling.{IsResponse}
+use Rattle.hickory_server.specs.server.Ruling.{IsResponse, own_for}
 use Rattle.hickory_server.specs.server.ServedBy.{Arrival, BytesServed, IsReadFrom, LeavesBytes}
 use Rattle.hickory_server.specs.declared.server.answer.Answer.{Answer}
 use Rattle.hickory_server.specs.declared.server.answer.Answer.TheVariants.{Replies}
@@ -68,13 +70,19 @@ abbrev pub is_by_one_of : List DomainName → Judgement → Bool
 is_by_one_of names (Signed s verdict) = list_any (λ name. name_eq name s.name) names
 is_by_one_of names other = false
 
+-- the names of the keys that may have the zone of a request transferred from anywhere: those of its own rules, if it has
+-- any, and no others; else those for all zones
+abbrev pub keys_for : List DomainName → Rules → MessageRequest → List DomainName
+keys_for names rules message = option_map_or (λ zone. zone.keys.items) (own_for rules message) names
+
 -- Rules by which everybody may have transfers, and which are these else.
 pub record AreOpen (rules theirs : Rules) : Type 0 where
-  pub others : theirs ≡ record rules { transfers = theirs.transfers }
+  pub others : theirs ≡ record rules { transfers = theirs.transfers; zones = theirs.zones }
   pub none_denied : (network : Network) → ¬ (Contains theirs.transfers.deny network)
   pub none_listed : (network : Network) → ¬ (Contains theirs.transfers.allow network)
+  pub no_own : theirs.zones.items ≡ []
 
--- The rules that a request is held to: these, which are opened where its key may have transfers from anywhere.
+-- The rules that a request is held to: these, which are opened where its key may have its zone from anywhere.
 abbrev pub AreRulesFor : Bool → Rules → Rules → Type 0
 AreRulesFor true rules theirs = AreOpen rules theirs
 AreRulesFor false rules theirs = theirs ≡ rules
@@ -94,7 +102,7 @@ pub data ServedWithKeys {H : Type 0} (keyed : KeyedServer H) (came : Arrival) (a
   -- Its signature is good: it is served, by the rules for its key, and the replies are signed.
   good : {judgement : Judgement} {request : ReceivedRequest} {served : Answer} {theirs : Rules} → IsForJudging keyed.keys keyed.rules came.bytes came.source
       → Judged keyed.keys came.bytes came.now judgement → course_of judgement ≡ Sign → IsRequestOf came request
-      → AreRulesFor (is_by_one_of keyed.transfer_keys judgement) keyed.rules theirs → BytesServed theirs keyed.server came served zones
+      → AreRulesFor (is_by_one_of (keys_for keyed.transfer_keys keyed.rules request.message) judgement) keyed.rules theirs → BytesServed theirs keyed.server came served zones
       → IsSentSigned keyed.keys keyed.rules (record { request = request; judgement = judgement; now = came.now }) served answer → ServedWithKeys keyed came answer zones
   -- Its signature is bad: no zone is asked.
   bad : {judgement : Judgement} {request : ReceivedRequest} {leaving : List (List ℕ)} → IsForJudging keyed.keys keyed.rules came.bytes came.source
@@ -107,5 +115,6 @@ pub data ServedWithKeys {H : Type 0} (keyed : KeyedServer H) (came : Arrival) (a
 abbrev pub LeavesWithKeys : {H : Type 0} → KeyedServer H → Arrival → ServeError → List (DomainName × List H) → Type 0
 LeavesWithKeys keyed came e zones = ((e ≡ Memory) × (zones ≡ keyed.server.zones))
     ⊎ (LeavesBytes keyed.rules keyed.server came e zones
-    ⊎ ((e ≡ MemoryAfterHandling) × (judgement : Judgement) × (theirs : Rules) × AreRulesFor (is_by_one_of keyed.transfer_keys judgement) keyed.rules theirs
+    ⊎ ((e ≡ MemoryAfterHandling) × (judgement : Judgement) × (request : ReceivedRequest) × (theirs : Rules) × IsRequestOf came request
+    × AreRulesFor (is_by_one_of (keys_for keyed.transfer_keys keyed.rules request.message) judgement) keyed.rules theirs
     × (answer : Answer) × BytesServed theirs keyed.server came answer zones))

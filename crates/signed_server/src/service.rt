@@ -9,11 +9,12 @@ ghost use Rattle.hickory_server.specs.declared.server.answer.Answer.{Answer as O
 ghost use Rattle.hickory_server.specs.declared.server.rules.Rules.{Rules as Ruled};
 ghost use Rattle.tsig.specs.Judging.{Judged};
 ghost use Rattle.signed_server.specs.KeyedServers.{keyed_of};
-ghost use Rattle.signed_server.specs.ServedWithKeys.{AreRulesFor, CountsNoRecord, IsForJudging, IsRequestWithKeys, LeavesWithKeys, ServedWithKeys, course_of, is_by_one_of};
+ghost use Rattle.signed_server.specs.ServedWithKeys.{AreRulesFor, CountsNoRecord, IsForJudging, IsRequestWithKeys, LeavesWithKeys, ServedWithKeys, course_of, is_by_one_of, keys_for};
 ghost use Rattle.signed_server.specs.SignedAnswers.{IsSentSigned};
 
 use crate::answers::{refused, sent};
 use hickory_base::access::AccessControl;
+use hickory_base::message_request::MessageRequest;
 use hickory_base::zone_store::ZoneHandler;
 use hickory_catalog::catalog::Catalog;
 use hickory_catalog::signer::ReplySigner;
@@ -106,6 +107,17 @@ fn is_by_one_of(names: &[Name], judgement: &Judgement) -> bool
     }
 }
 
+/// The names of the keys that may have the zone of a request transferred from anywhere: those of its own rules, if it
+/// has any, and else these.
+fn keys_for<'a>(names: &'a [Name], rules: &'a Rules, message: &MessageRequest) -> &'a [Name]
+    ensures { result.now ≡ keys_for names.now rules.now message.now }
+{
+    match rules.own_for(message) {
+        Some(zone) => zone.keys.as_slice(),
+        None => names,
+    }
+}
+
 /// Serves the request that was read last, by rules that let it have transfers from anywhere where that is said.
 fn serve_opened<S: ReplySigner, H: ZoneHandler>(
     alloc: Global,
@@ -128,8 +140,10 @@ fn serve_opened<S: ReplySigner, H: ZoneHandler>(
         return server.serve_request(alloc, now, Items::new(alloc));
     }
     let closed = mem::replace(&mut server.rules.transfers, AccessControl::new(alloc));
+    let zones = mem::replace(&mut server.rules.zones, Vec::new(alloc));
     let served = server.serve_request(alloc, now, Items::new(alloc));
     server.rules.transfers = closed;
+    server.rules.zones = zones;
     served
 }
 
@@ -146,8 +160,8 @@ fn serve_good<S: ReplySigner, H: ZoneHandler>(
     ensures rules { server.new.rules ≡ server.old.rules }
     ensures others { server.new.catalog ≡ record server.old.catalog { zones = server.new.catalog.zones } }
     ensures ok { IfOk result (λ answer. (theirs : Ruled) × (served : Outcome) ×
-        AreRulesFor (is_by_one_of names.now judgement.now) server.old.rules theirs ×
-        BytesServed theirs (server_of H.ZoneHandler S.signature_for server.old.catalog)
+        AreRulesFor (is_by_one_of (keys_for names.now server.old.rules server.old.request.message) judgement.now)
+        server.old.rules theirs × BytesServed theirs (server_of H.ZoneHandler S.signature_for server.old.catalog)
         (arrival_of server.old.request now) served server.new.catalog.zones ×
         IsSentSigned keys.now server.old.rules
         (record { request = server.old.request; judgement = judgement.now; now = now }) served answer) }
@@ -158,6 +172,7 @@ fn serve_good<S: ReplySigner, H: ZoneHandler>(
       server = server_of H.ZoneHandler S.signature_for server.old.catalog;
     }) (arrival_of server.old.request now) e server.new.catalog.zones) }
 {
+    let names = keys_for(names, &server.rules, server.request().message());
     let is_open = is_by_one_of(names, judgement);
     let replies = serve_opened(alloc, is_open, server, now)?;
     match sent(
@@ -186,7 +201,8 @@ pub struct SignedServer<S: ReplySigner, H: ZoneHandler> {
     pub server: Server<S, H>,
     /// The keys.
     pub keys: Keys,
-    /// The names of keys whose good signature lets a request have transfers from anywhere, letter case aside.
+    /// The names of keys whose good signature lets a request have zones from anywhere that have no rules of their own,
+    /// letter case aside.
     pub transfer_keys: Vec<Name>,
 }
 
@@ -258,8 +274,8 @@ impl<S: ReplySigner, H: ZoneHandler> SignedServer<S, H> {
     /// It is judged by the keys (RFC 8945 section 5.2), unless there is none, or its address may not use the server, or
     /// it has no header, or is itself a response, or counts no record behind its questions: then, and where it has no
     /// TSIG record, it is served as [`Server::serve`] serves it. Where its signature is good, it is served so too, TSIG
-    /// record and all, by rules that let everybody have transfers where the key is one of `transfer_keys`, and every
-    /// reply is signed over the bytes that leave, the first over the MAC of the request, and each further one of a
+    /// record and all, by rules that let everybody have transfers where the key is one that the zone's own rules name, or one of
+    /// `transfer_keys` if it has none, and every reply is signed over the bytes that leave, the first over the MAC of the request, and each further one of a
     /// transfer over the MAC of the one before it (sections 5.3 and 5.3.1). Over UDP, the room is what the client takes
     /// and the rules allow. A reply that has no room for its TSIG record is replaced by the question, with TC and no
     /// error (section 5.3). Over a stream, the room is 65,535 bytes. A transfer is sent in messages that each have room

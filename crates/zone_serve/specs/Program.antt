@@ -26,6 +26,7 @@ pub record IsServerOf (opens : List ℕ → List ℕ → Type 0) (settings : Set
   pub allowed : SameNetworks (flat_map parts_of settings.allowed.items) made.server.rules.access.allow
   pub transfers_denied : SameNetworks (settings.transfers_denied.items ++ all_networks) made.server.rules.transfers.deny
   pub transfers_allowed : SameNetworks (flat_map parts_of settings.transfers_allowed.items) made.server.rules.transfers.allow
+  pub own_rules : made.server.rules.zones.items ≡ []
   pub limit : MatchOption settings.max_udp (made.server.rules.max_udp ≡ 1232) (λ limit. made.server.rules.max_udp ≡ limit)
   pub zones : AreZonesOf opens settings made.keys [] made.server.catalog.zones
   pub identifier : made.server.catalog.nsid ≡ option_map (λ it. it.0.now) settings.identifier

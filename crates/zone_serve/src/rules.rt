@@ -1,6 +1,6 @@
 //! The rules of the server, the names of its zones and its identifier, from the arguments.
 
-ghost use Rattle.std.specs.Prelude.{◌≡◌, ◌++◌, IfOk, MatchOption, option_map};
+ghost use Rattle.std.specs.Prelude.{◌≡◌, ◌++◌, [], IfOk, MatchOption, option_map};
 ghost use Rattle.std.specs.List.{flat_map};
 ghost use Rattle.server_limits.specs.Access.{SameNetworks};
 ghost use Rattle.served_keys.specs.ServedKeys.{all_networks, parts_of};
@@ -42,6 +42,7 @@ pub fn rules_of(alloc: Global, settings: &Settings<'_>) -> Result<Rules, AllocEr
         (λ rules. SameNetworks (settings.now.transfers_denied.items ++ all_networks) rules.transfers.deny) }
     ensures transfers_allowed { IfOk result
         (λ rules. SameNetworks (flat_map parts_of settings.now.transfers_allowed.items) rules.transfers.allow) }
+    ensures own_rules { IfOk result (λ rules. rules.zones.items ≡ []) }
     ensures limit { IfOk result (λ rules. MatchOption settings.now.max_udp (rules.max_udp ≡ 1232)
         (λ limit. rules.max_udp ≡ limit)) }
 {
@@ -54,6 +55,7 @@ pub fn rules_of(alloc: Global, settings: &Settings<'_>) -> Result<Rules, AllocEr
     Ok(Rules {
         access: server,
         transfers,
+        zones: Vec::new(alloc),
         max_udp: settings.max_udp.unwrap_or(1232),
     })
 }

@@ -7,3 +7,5 @@
 
 mod exports;
 mod journals;
+mod notifying;
+mod transfers;

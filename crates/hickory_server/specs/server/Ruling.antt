@@ -1,14 +1,17 @@
 -- The rules of a server: what it makes of a message, and of a request, before its zones are asked.
-use Rattle.std.specs.Prelude.{◌≡◌, ◌==◌, ◌≢◌, ◌≤◌, ◌⊎◌, ◌∷◌, [], ℕ, true, None, List, cond, get_or, max, min}
+use Rattle.std.specs.Prelude.{◌≡◌, ◌==◌, ◌≢◌, ◌≤◌, ◌⊎◌, ◌∷◌, [], ℕ, true, None, List, Option, cond, find, get_or, max, min}
+use Rattle.std.specs.Option.{option_map_or}
 use Rattle.std.specs.Net.Socket.{socket_ip}
 use Rattle.std.specs.declared.net.SocketAddr.{SocketAddr}
+use Rattle.wire_names.specs.rr.domain.DomainName.{DomainName}
+use Rattle.wire_names.specs.rr.domain.NameOrder.{name_eq}
 use Rattle.wire_messages.specs.Numbers.{class_any, class_in, code_not_auth, code_refused, opcode_query, opcode_update, type_axfr, type_ixfr, type_soa}
 use Rattle.wire_messages.specs.op.Metadata.{response_to}
 use Rattle.wire_messages.specs.serialize.writing.Reply.{Reply}
 use Rattle.wire_messages.specs.declared.op.header.MessageType.TheVariants as message_type
 use Rattle.wire_messages.specs.declared.op.query.Query.{Query}
 use Rattle.wire_messages.specs.declared.protocol.Protocol.TheVariants.{Udp}
-use Rattle.server_limits.specs.Access.{IsAllowed}
+use Rattle.server_limits.specs.Access.{AccessSets, IsAllowed}
 use Rattle.hickory_base.specs.requests.Questions.{edns_version, payload_limit}
 use Rattle.hickory_base.specs.requests.Requests.{ReceivedRequest}
 use Rattle.hickory_base.specs.declared.requests.message_request.MessageRequest.{MessageRequest}
@@ -17,6 +20,7 @@ use Rattle.hickory_catalog.specs.replies.ReplyEdns.{reply_edns}
 use Rattle.hickory_catalog.specs.requests.Server.{Server}
 use Rattle.hickory_server.specs.declared.server.rules.Rules.{Rules}
 use Rattle.hickory_server.specs.declared.server.rules.Ruling.{Ruling}
+use Rattle.hickory_server.specs.declared.server.rules.ZoneTransfers.{ZoneTransfers}
 use Rattle.hickory_server.specs.declared.server.rules.Ruling.TheVariants.{Pass, Refuse, Transfer, Truncate}
 
 -- The message is itself a response: QR is set, the highest bit of its third byte (RFC 1035 section 4.1.1).
@@ -70,9 +74,26 @@ IsIncremental query = query.query_type ≡ type_ixfr
 abbrev pub MayUse : Rules → SocketAddr → Type 0
 MayUse rules source = IsAllowed rules.access.deny rules.access.allow (socket_ip source)
 
--- Transfers may go to the address that the request came from.
+-- the rules that the zone of this name has of its own, if it has any, whatever the letter case of the name
+abbrev pub own_of : List ZoneTransfers → DomainName → Option ZoneTransfers
+own_of zones name = find (λ zone. name_eq zone.apex name) zones
+
+-- those of the zone that a request is for: the one of the name of its question
+abbrev pub own_by : List ZoneTransfers → List Query → Option ZoneTransfers
+own_by zones (query ∷ []) = own_of zones query.name
+own_by zones queries = None
+
+abbrev pub own_for : Rules → MessageRequest → Option ZoneTransfers
+own_for rules message = own_by rules.zones.items message.queries.queries
+
+-- who may have that zone transferred: who its own rules say, if it has any, and no other; else who the rules for all
+-- zones say
+abbrev pub transfers_for : Rules → MessageRequest → AccessSets
+transfers_for rules message = option_map_or (λ zone. zone.access) (own_for rules message) rules.transfers
+
+-- The zone of the request may be transferred to the address that the request came from.
 abbrev pub MayTransfer : Rules → ReceivedRequest → Type 0
-MayTransfer rules request = IsAllowed rules.transfers.deny rules.transfers.allow (socket_ip request.source)
+MayTransfer rules request = IsAllowed (transfers_for rules request.message).deny (transfers_for rules request.message).allow (socket_ip request.source)
 
 -- A query is refused if its class is not served, or if it asks for a transfer and its address may have none.
 abbrev pub IsRefusedQuery : Rules → ReceivedRequest → Query → Type 0

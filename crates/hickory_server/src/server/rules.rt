@@ -1,25 +1,39 @@
 //! What a server holds every message to.
 
-ghost use Rattle.std.specs.Prelude.{◌≡◌, ◌≢◌, ◌↔◌, ◌≤◌, ℕ, Contains, IsTrue, MatchOption, false};
+ghost use Rattle.std.specs.Prelude.{◌≡◌, ◌≢◌, ◌↔◌, ◌≤◌, [], ℕ, Contains, IsTrue, MatchOption, false};
+ghost use Rattle.std.specs.Option.{option_copied};
 ghost use Rattle.wire_messages.specs.declared.op.query.Query.{Query};
 ghost use Rattle.server_limits.specs.Access.{Network};
-ghost use Rattle.hickory_server.specs.server.Ruling.{Asks, AsksForTransfer, IsIncremental, IsOfServedClass, IsQuery, IsRefusedUpdate, IsResponse, IsRuling, IsTransfer, datagram_limit, udp_limit};
+ghost use Rattle.hickory_server.specs.server.Ruling.{Asks, AsksForTransfer, IsIncremental, IsOfServedClass, IsQuery, IsRefusedUpdate, IsResponse, IsRuling, IsTransfer, MayTransfer, datagram_limit, own_of, own_for, transfers_for, udp_limit};
 ghost use Rattle.hickory_server.specs.server.Sending.{sending_of};
 
 use crate::server::sending::Sending;
 use hickory_base::access::AccessControl;
 use hickory_base::message_request::MessageRequest;
 use hickory_base::server::Request;
-use hickory_wire::{DNSClass, LowerQuery, MessageType, OpCode, Protocol, RecordType};
+use hickory_wire::{DNSClass, LowerQuery, MessageType, Name, OpCode, Protocol, RecordType};
 use std::alloc::Global;
+
+/// The rules that a zone has of its own of who may have it transferred.
+#[derive(Drop)]
+pub struct ZoneTransfers {
+    /// The name of the zone's apex.
+    pub apex: Name,
+    /// Who may have it transferred, of those who may use the server.
+    pub access: AccessControl,
+    /// The names of keys whose good signature lets a request have it from anywhere, at a server that has keys.
+    pub keys: Vec<Name>,
+}
 
 /// What a server holds every message to.
 #[derive(Drop)]
 pub struct Rules {
     /// Who may use the server.
     pub access: AccessControl,
-    /// Who of those may have a zone transferred.
+    /// Who of those may have a zone transferred that has no rules of its own.
     pub transfers: AccessControl,
+    /// The zones that have rules of their own of who may have them transferred. Of two for one name the first counts.
+    pub zones: Vec<ZoneTransfers>,
     /// How many bytes a reply over UDP has at most, where the client takes as many. Less than 512 is 512.
     pub max_udp: u16,
 }
@@ -111,6 +125,14 @@ pub fn asks_for_transfer(message: &MessageRequest) -> bool
     }
 }
 
+/// The rules that the zone of this name has of its own, if it has any. The time grows with the number of zones that
+/// have rules.
+fn own_of<'a>(zones: &'a [ZoneTransfers], name: &Name) -> Option<&'a ZoneTransfers>
+    ensures { option_copied result ≡ own_of zones.now name.now }
+{
+    zones.iter().find(|zone| zone.apex == *name)
+}
+
 /// What becomes of a question for a transfer whose asker may have it: what changed in a zone is asked of its handlers
 /// over any transport, and the whole zone over streams alone.
 fn ruling_of_transfer(protocol: Protocol, query: &LowerQuery) -> Ruling
@@ -135,11 +157,13 @@ impl Rules {
         ensures allow { (network : Network) → ¬ (Contains result.access.allow network) }
         ensures no_transfers { (network : Network) → ¬ (Contains result.transfers.deny network) }
         ensures transfers { (network : Network) → ¬ (Contains result.transfers.allow network) }
+        ensures zones { result.zones.items ≡ [] }
         ensures limit { result.max_udp ≡ 1232 }
     {
         Rules {
             access: AccessControl::new(alloc),
             transfers: AccessControl::new(alloc),
+            zones: Vec::new(alloc),
             max_udp: 1232,
         }
     }
@@ -173,6 +197,36 @@ impl Rules {
         }
     }
 
+    /// The rules of transfers that the zone of a request has of its own, if it has any. The zone is the one of the name
+    /// of its question; a request of another number of questions has none.
+    pub fn own_for(&self, message: &MessageRequest) -> Option<&ZoneTransfers>
+        ensures { option_copied result ≡ own_for self.now message.now }
+    {
+        match message.queries.queries() {
+            [query] => own_of(self.zones.as_slice(), &query.original().name),
+            _ => None,
+        }
+    }
+
+    /// Who may have the zone of a request transferred: who its own rules say, if it has any, and no other; else who the
+    /// rules for all zones say.
+    fn transfers_for(&self, message: &MessageRequest) -> &AccessControl
+        ensures { result.now ≡ transfers_for self.now message.now }
+    {
+        match self.own_for(message) {
+            Some(zone) => &zone.access,
+            None => &self.transfers,
+        }
+    }
+
+    /// Whether the zone of a request may be transferred to the address that it came from.
+    fn may_transfer(&self, request: &Request) -> bool
+        ensures { IsTrue result ↔ MayTransfer self.now request.now }
+    {
+        self.transfers_for(request.message())
+            .allow(request.src().ip())
+    }
+
     /// What becomes of a query whose one question this is.
     // speed: served, an address
     #[inline(always)]
@@ -186,7 +240,7 @@ impl Rules {
         if !is_transfer(query) {
             return Ruling::Pass;
         }
-        if !self.transfers.allow(request.src().ip()) {
+        if !self.may_transfer(request) {
             return Ruling::Refuse;
         }
         ruling_of_transfer(request.protocol(), query)

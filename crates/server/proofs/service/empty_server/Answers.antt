@@ -1,4 +1,3 @@
-use Rattle.std.proofs.Common.{arith}
 use Rattle.server.proofs.service.empty_server.Goals as goal
 
 pub returns-clause-denied : goal.returns-clause-denied
@@ -8,7 +7,7 @@ pub returns-clause-allowed : goal.returns-clause-allowed
 returns-clause-allowed c = rw (c.in_ok-signed.ensures.server, c.in_ok-server.ensures.rules) c.new-rules.ensures.allow
 
 pub returns-clause-transfers_denied : goal.returns-clause-transfers_denied
-returns-clause-transfers_denied c = rw (c.in_ok-signed.ensures.server, c.in_ok-server.ensures.rules) (rw (c.as_slice.ensures.value, c.in_ok-all.ensures) at c.in_ok-rules.ensures.denied)
+returns-clause-transfers_denied c = rw (c.in_ok-signed.ensures.server, c.in_ok-server.ensures.rules) c.in_ok-rules.ensures.denied
 
 pub returns-clause-transfers_allowed : goal.returns-clause-transfers_allowed
-returns-clause-transfers_allowed c = rw (c.in_ok-signed.ensures.server, c.in_ok-server.ensures.rules) (λ network held. let (place, below, is) = (c.in_ok-rules.ensures.allowed network).0 held in omega (arith, below))
+returns-clause-transfers_allowed c = rw (c.in_ok-signed.ensures.server, c.in_ok-server.ensures.rules) c.in_ok-rules.ensures.allowed

@@ -8,12 +8,21 @@ returns-in-Ok-clause-ok g c =
     let (theirs, are, served) = c.in_ok-replies.ensures.ok in (
       theirs,
       Replies c.in_ok-replies.replies,
-      rw c.is_by_one_of-is_open.ensures at are,
+      rw (c.is_by_one_of-is_open.ensures, c.keys_for-names.ensures, c.message.ensures, c.request.ensures) at are,
       served,
-      (c.in-Ok.leaving, rw (c.serve_opened.ensures.rules, c.request.ensures, c.serve_opened.ensures.request) at c.in-Ok.ensures, refl),
+      (c.in-Ok.leaving, rw (c.serve_opened.ensures.rules, c.request-2.ensures, c.serve_opened.ensures.request) at c.in-Ok.ensures, refl),
     )
 
 pub returns-in-Err-clause-err : goal.returns-in-Err-clause-err
 returns-in-Err-clause-err g c =
     let (theirs, are, served) = c.in_ok-replies.ensures.ok in
-    inr (inr (refl, c.args.judgement.now, theirs, rw c.is_by_one_of-is_open.ensures at are, Replies c.in_ok-replies.replies, served))
+    inr (inr (
+      refl,
+      c.args.judgement.now,
+      c.args.server.now.request,
+      theirs,
+      c.requires.read,
+      rw (c.is_by_one_of-is_open.ensures, c.keys_for-names.ensures, c.message.ensures, c.request.ensures) at are,
+      Replies c.in_ok-replies.replies,
+      served,
+    ))

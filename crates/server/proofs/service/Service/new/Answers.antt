@@ -11,6 +11,7 @@ returns c = record {
   none_allowed = rw c.new.ensures.server c.in_ok-empty_server.ensures.allowed;
   transfers_denied = rw c.new.ensures.server c.in_ok-empty_server.ensures.transfers_denied;
   no_transfer_allowed = rw c.new.ensures.server c.in_ok-empty_server.ensures.transfers_allowed;
+  no_own_rules = rw c.new.ensures.server c.in_ok-empty_server.ensures.own_rules;
   max_udp = rw c.new.ensures.server c.in_ok-empty_server.ensures.limit;
   nothing_waits = c.new.ensures.waiting;
   no_log = c.new.ensures.log;
@@ -20,4 +21,5 @@ returns c = record {
   no_grants = c.new-4.ensures.items;
   no_list = refl;
   no_journals = c.new-5.ensures.items;
+  nobody_told = c.new-6.ensures;
 }
