@@ -1,4 +1,5 @@
 -- Records that make a zone.
 pub mod FirstRecords
 pub mod RecordZones
+pub mod SetRows
 pub mod SetsOfRecords
