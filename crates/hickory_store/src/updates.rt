@@ -5,7 +5,6 @@ mod answers;
 mod changed_sets;
 mod changes;
 mod handler;
-mod keyed;
 pub mod laws;
 mod names;
 mod prerequisites;

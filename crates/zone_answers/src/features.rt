@@ -133,7 +133,6 @@ fn are_starless(sets: &BTreeMap<RrKey, Rc<RecordSet>>) -> bool
 }
 
 /// The lengths of the names that own NS records and are longer than that of the apex.
-// No clause: `are_cut_within` sees whether all cuts stand at names of such lengths.
 fn lengths_of_cuts(apex: usize, sets: &BTreeMap<RrKey, Rc<RecordSet>>) -> Lengths {
     let mut lengths = Lengths {
         least: 254,
@@ -200,7 +199,6 @@ fn with_stars(lengths: Lengths, bytes: &[u8]) -> Lengths
 }
 
 /// The lengths of what stands behind each `*` of the names.
-// No clause: `are_wild_within` sees whether all wildcards stand right below names of such lengths.
 fn lengths_of_wildcards(sets: &BTreeMap<RrKey, Rc<RecordSet>>) -> Lengths {
     let mut lengths = Lengths {
         least: 254,

@@ -57,7 +57,7 @@ pub struct Index {
     marks: Vec<bool>,
     // How many names were marked.
     changes: usize,
-    // Whether each name below the apex still has the NS records that it has among the entries, or none.
+    // Whether each name still has the NS records that it has among the entries, or none.
     has_servers: bool,
 }
 
@@ -231,12 +231,12 @@ fn mark_name(entries: &[SharedSet], marks: &mut Vec<bool>, place: usize, first: 
     }
 }
 
-/// Whether names below the apex have the NS records that they had, if one more name may have changed: it is the apex, or
-/// it had none before and has none after.
-fn is_still(so_far: bool, is_apex: bool, before: bool, after: bool) -> bool
-    ensures { IsTrue result → (so_far ≡ true) × (is_apex ≡ false → (before ≡ false) × (after ≡ false)) }
+/// Whether names have the NS records that they had, if one more may have changed: it had none before, and has none
+/// after.
+fn is_still(so_far: bool, before: bool, after: bool) -> bool
+    ensures { IsTrue result → (so_far ≡ true) × (before ≡ false) × (after ≡ false) }
 {
-    so_far && (is_apex || !before && !after)
+    so_far && !before && !after
 }
 
 impl Index {
@@ -272,7 +272,7 @@ impl Index {
         })
     }
 
-    /// Whether the zone still has the NS records that the index has below the apex, and no others there.
+    /// Whether the zone still has the NS records that the index has, and no others.
     #[inline(always)]
     pub(crate) fn has_servers(&self) -> bool
         ensures { result ≡ self.now.has_servers }
@@ -282,7 +282,6 @@ impl Index {
 
     /// Whether so many names were marked that the index should be made again: more than 64 and than a sixteenth of the
     /// sets.
-    // No clause: what is found is the same by an index that is made again.
     pub fn is_worn(&self) -> bool {
         self.changes > MOST_CHANGES && self.changes > self.entries.len() / MOST_CHANGES_SHARE
     }
@@ -369,10 +368,9 @@ impl Index {
             return false;
         }
         let first = RrKey::new(name, RecordType::new(0));
-        let is_apex = first.name.zone_of(&self.apex);
         let before = has_servers_in(self, &first);
         let after = has_servers_at(sets, &first);
-        self.has_servers = is_still(self.has_servers, is_apex, before, after);
+        self.has_servers = is_still(self.has_servers, before, after);
         self.mark(&first);
         true
     }

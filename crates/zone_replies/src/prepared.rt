@@ -75,7 +75,6 @@ impl Prepared {
     /// Whether updates have marked so many names that it is time to prepare the zone again: more than 64, and more than
     /// a sixteenth of the record sets. Each update marks the apex too. So the time that this takes is, on average, that
     /// of at most 16 record sets for each name that was marked.
-    // No clause: replies are the same after a zone is prepared again.
     pub fn is_worn(&self) -> bool {
         self.index.is_worn()
     }

@@ -45,25 +45,25 @@ some_lines [] other is = true_is_false (sym other)
 some_lines (x ∷ lines) other is = cons_is_nil is
 
 module _ {S H : Type 0} (handler : Ghosts H) (signature_for : S → Signer) (first middle last : SignedServer S H) (stays : Stays first middle) where
-  pub each_more : (lines : List (Vec ℕ Global)) (place : ℕ) (line : Vec ℕ Global) (moments written moment back more_written : List ℕ) (tells : Bool) → place < length lines → line ≡ get_or lines place line
-      → EachServed (keyed_of handler signature_for first) (contents (take place lines)) moments written middle.server.catalog.zones
-      → LineServed (keyed_of handler signature_for middle) line.items moment back last.server.catalog.zones tells → more_written ≡ written ++ back
-      → EachServed (keyed_of handler signature_for first) (contents (take (place + 1) lines)) (moments ++ moment) more_written last.server.catalog.zones
-  each_more lines place line moments written moment back more_written tells inside is so_far served appended =
-      subst (λ (l : List (List ℕ)). EachServed (keyed_of handler signature_for first) l (moments ++ moment) more_written last.server.catalog.zones) (sym (contents_more lines place line inside is))
-      (subst (λ (w : List ℕ). EachServed (keyed_of handler signature_for first) (contents (take place lines) ++ line.items ∷ []) (moments ++ moment) w last.server.catalog.zones) (sym appended)
-      (more (contents (take place lines)) moments written line.items moment back tells so_far
-      (subst (λ (s : KeyedServer H). LineServed s line.items moment back last.server.catalog.zones tells) (same_keyed handler signature_for first middle stays) served)))
+  pub each_more : (lines : List (Vec ℕ Global)) (place : ℕ) (line : Vec ℕ Global) (written back more_written : List ℕ) (tells : Bool) → place < length lines → line ≡ get_or lines place line
+      → EachServed (keyed_of handler signature_for first) (contents (take place lines)) written middle.server.catalog.zones
+      → LineServed (keyed_of handler signature_for middle) line.items back last.server.catalog.zones tells → more_written ≡ written ++ back
+      → EachServed (keyed_of handler signature_for first) (contents (take (place + 1) lines)) more_written last.server.catalog.zones
+  each_more lines place line written back more_written tells inside is so_far served appended =
+      subst (λ (l : List (List ℕ)). EachServed (keyed_of handler signature_for first) l more_written last.server.catalog.zones) (sym (contents_more lines place line inside is))
+      (subst (λ (w : List ℕ). EachServed (keyed_of handler signature_for first) (contents (take place lines) ++ line.items ∷ []) w last.server.catalog.zones) (sym appended)
+      (more (contents (take place lines)) written line.items back tells so_far
+      (subst (λ (s : KeyedServer H). LineServed s line.items back last.server.catalog.zones tells) (same_keyed handler signature_for first middle stays) served)))
 
 module _ {S H : Type 0} (handler : Ghosts H) (signature_for : S → Signer) (begins settles : List (DomainName × List H) → List (DomainName × List H) → Type 0)
-    (first held : SignedServer S H) (stays : Stays first held) (lines : List (List ℕ)) (moments written : List ℕ) where
-  pub settled : (ahead zones : List (DomainName × List H)) → Begun begins first.server.catalog.zones held.server.catalog.zones true → EachServed (keyed_of handler signature_for held) lines moments written ahead → settles ahead zones
-      → GroupServed begins settles (keyed_of handler signature_for first) lines moments written zones
+    (first held : SignedServer S H) (stays : Stays first held) (lines : List (List ℕ)) (written : List ℕ) where
+  pub settled : (ahead zones : List (DomainName × List H)) → Begun begins first.server.catalog.zones held.server.catalog.zones true → EachServed (keyed_of handler signature_for held) lines written ahead → settles ahead zones
+      → GroupServed begins settles (keyed_of handler signature_for first) lines written zones
   settled ahead zones begun served written_out =
-      as_one begun (subst (λ (s : KeyedServer H). EachServed s lines moments written ahead) (same_keyed handler signature_for first held stays) served) written_out
+      as_one begun (subst (λ (s : KeyedServer H). EachServed s lines written ahead) (same_keyed handler signature_for first held stays) served) written_out
 
-  pub as_ever : (zones : List (DomainName × List H)) → Begun begins first.server.catalog.zones held.server.catalog.zones false → EachServed (keyed_of handler signature_for held) lines moments written zones
-      → GroupServed begins settles (keyed_of handler signature_for first) lines moments written zones
+  pub as_ever : (zones : List (DomainName × List H)) → Begun begins first.server.catalog.zones held.server.catalog.zones false → EachServed (keyed_of handler signature_for held) lines written zones
+      → GroupServed begins settles (keyed_of handler signature_for first) lines written zones
   as_ever zones same served =
-      as_lines (subst (λ (s : KeyedServer H). EachServed s lines moments written zones)
+      as_lines (subst (λ (s : KeyedServer H). EachServed s lines written zones)
       (same_keyed handler signature_for first held stays ∙ ap (over (keyed_of handler signature_for first)) same) served)

@@ -2,8 +2,8 @@
 use Rattle.std.proofs.Common.{◌≡◌, ◌<◌, ◌++◌, ◌∷◌, ℕ, List, [], Option, Some, None, IfSome, refl, sym, ap, subst, ◌∙◌, arith, append_assoc, length}
 use Rattle.std.proofs.lemmas.List.{append-nil}
 use Rattle.std.specs.Io.BufRead.{DropsThrough, drop_through, take_through}
-use Rattle.std.specs.Io.KnownBytes.{Appends, Consumes}
-use Rattle.std.proofs.KnownBytes.{Appends-nil, Appends-trans, Consumes-nil, Consumes-trans}
+use Rattle.std.specs.Io.KnownBytes.{Appends}
+use Rattle.std.proofs.KnownBytes.{Appends-nil, Appends-trans}
 use Rattle.wire_names.specs.rr.domain.DomainName.{DomainName}
 use Rattle.hickory_catalog.specs.replies.Signing.{Signer}
 use Rattle.hickory_base.specs.declared.zone_store.handler.ZoneHandler.{Ghosts}
@@ -69,52 +69,50 @@ group_of (Some input) between new line lines (within, line_is, left) put =
 
 -- What became of the lines so far, where the input is known.
 abbrev pub LinesSoFar : {H : Type 0} → (List (DomainName × List H) → List (DomainName × List H) → Type 0) → (List (DomainName × List H) → List (DomainName × List H) → Type 0)
-    → KeyedServer H → Option (List ℕ) → Option (List ℕ) → Option (List ℕ) → Option (List ℕ) → Option (List ℕ) → Option (List ℕ) → List (DomainName × List H) → Type 0
-LinesSoFar begins settles service old new told later held kept zones = IfSome old (λ input. (lines : List (List ℕ)) × (moments : List ℕ) × (written : List ℕ) × (rest : List ℕ) × (new ≡ Some rest)
-    × AreLines input lines rest × LinesServed begins settles service lines moments written zones × Consumes told later moments × Appends held kept written)
+    → KeyedServer H → Option (List ℕ) → Option (List ℕ) → Option (List ℕ) → Option (List ℕ) → List (DomainName × List H) → Type 0
+LinesSoFar begins settles service old new held kept zones = IfSome old (λ input. (lines : List (List ℕ)) × (written : List ℕ) × (rest : List ℕ) × (new ≡ Some rest)
+    × AreLines input lines rest × LinesServed begins settles service lines written zones × Appends held kept written)
 
 module _ {H : Type 0} (begins settles : List (DomainName × List H) → List (DomainName × List H) → Type 0) where
-  pub so_far_none : (service : KeyedServer H) (old told held : Option (List ℕ)) → LinesSoFar begins settles service old old told told held held service.server.zones
-  so_far_none service None told held = tt
-  so_far_none service (Some input) told held = ([], [], [], input, refl, refl, none, Consumes-nil told, Appends-nil held)
+  pub so_far_none : (service : KeyedServer H) (old held : Option (List ℕ)) → LinesSoFar begins settles service old old held held service.server.zones
+  so_far_none service None held = tt
+  so_far_none service (Some input) held = ([], [], input, refl, refl, none, Appends-nil held)
 
   module _ {S : Type 0} (handler : Ghosts H) (signature_for : S → Signer) (first middle last : SignedServer S H) (stays : Stays first middle)
-      (old between new told later latest held kept after : Option (List ℕ)) where
+      (old between new held kept after : Option (List ℕ)) where
     -- One more group is served, over the zones as those before it left them.
-    pub so_far_more : (group : List (List ℕ)) (its_moments back : List ℕ) → (group ≡ [] → ⊥)
-        → LinesSoFar begins settles (keyed_of handler signature_for first) old between told later held kept middle.server.catalog.zones
+    pub so_far_more : (group : List (List ℕ)) (back : List ℕ) → (group ≡ [] → ⊥)
+        → LinesSoFar begins settles (keyed_of handler signature_for first) old between held kept middle.server.catalog.zones
         → IfSome between (λ input. NextLines input group new)
-        → GroupServed begins settles (keyed_of handler signature_for middle) group its_moments back last.server.catalog.zones → Consumes later latest its_moments → Appends kept after back
-        → LinesSoFar begins settles (keyed_of handler signature_for first) old new told latest held after last.server.catalog.zones
-    so_far_more [] its_moments back some so_far next served tells appends = absurd (some refl)
-    so_far_more (line ∷ group) its_moments back some so_far next served tells appends = by_input old so_far where
-      by_input : (old : Option (List ℕ)) → LinesSoFar begins settles (keyed_of handler signature_for first) old between told later held kept middle.server.catalog.zones
-          → LinesSoFar begins settles (keyed_of handler signature_for first) old new told latest held after last.server.catalog.zones
+        → GroupServed begins settles (keyed_of handler signature_for middle) group back last.server.catalog.zones → Appends kept after back
+        → LinesSoFar begins settles (keyed_of handler signature_for first) old new held after last.server.catalog.zones
+    so_far_more [] back some so_far next served appends = absurd (some refl)
+    so_far_more (line ∷ group) back some so_far next served appends = by_input old so_far where
+      by_input : (old : Option (List ℕ)) → LinesSoFar begins settles (keyed_of handler signature_for first) old between held kept middle.server.catalog.zones
+          → LinesSoFar begins settles (keyed_of handler signature_for first) old new held after last.server.catalog.zones
       by_input None before = tt
-      by_input (Some input) (lines, moments, written, rest, is, are, before, has_told, holds) =
+      by_input (Some input) (lines, written, rest, is, are, before, holds) =
           let (left, those, at) = rw is at next in (
             lines ++ line ∷ group,
-            moments ++ its_moments,
             written ++ back,
             left,
             at,
             lines_behind input lines rest (line ∷ group) left are those,
-            more lines (line ∷ group) moments written its_moments back before
-                (subst (λ (s : KeyedServer H). GroupServed begins settles s (line ∷ group) its_moments back last.server.catalog.zones) (same_keyed handler signature_for first middle stays) served),
-            Consumes-trans told later latest moments its_moments has_told tells,
+            more lines (line ∷ group) written back before
+                (subst (λ (s : KeyedServer H). GroupServed begins settles s (line ∷ group) back last.server.catalog.zones) (same_keyed handler signature_for first middle stays) served),
             Appends-trans held kept after written back holds appends,
           )
 
     -- At the end of the input there is no more.
     pub so_far_all : (group : List (List ℕ)) → group ≡ []
-        → LinesSoFar begins settles (keyed_of handler signature_for first) old between told later held kept middle.server.catalog.zones → IfSome between (λ input. NextLines input group new)
-        → IfSome old (λ input. (lines : List (List ℕ)) × (moments : List ℕ) × (written : List ℕ) × AreLines input lines []
-        × LinesServed begins settles (keyed_of handler signature_for first) lines moments written middle.server.catalog.zones × Consumes told later moments × Appends held kept written)
+        → LinesSoFar begins settles (keyed_of handler signature_for first) old between held kept middle.server.catalog.zones → IfSome between (λ input. NextLines input group new)
+        → IfSome old (λ input. (lines : List (List ℕ)) × (written : List ℕ) × AreLines input lines []
+        × LinesServed begins settles (keyed_of handler signature_for first) lines written middle.server.catalog.zones × Appends held kept written)
     so_far_all group empty so_far next = by_input old so_far where
-      by_input : (old : Option (List ℕ)) → LinesSoFar begins settles (keyed_of handler signature_for first) old between told later held kept middle.server.catalog.zones
-          → IfSome old (λ input. (lines : List (List ℕ)) × (moments : List ℕ) × (written : List ℕ) × AreLines input lines []
-          × LinesServed begins settles (keyed_of handler signature_for first) lines moments written middle.server.catalog.zones × Consumes told later moments × Appends held kept written)
+      by_input : (old : Option (List ℕ)) → LinesSoFar begins settles (keyed_of handler signature_for first) old between held kept middle.server.catalog.zones
+          → IfSome old (λ input. (lines : List (List ℕ)) × (written : List ℕ) × AreLines input lines []
+          × LinesServed begins settles (keyed_of handler signature_for first) lines written middle.server.catalog.zones × Appends held kept written)
       by_input None before = tt
-      by_input (Some input) (lines, moments, written, rest, is, are, before, has_told, holds) =
+      by_input (Some input) (lines, written, rest, is, are, before, holds) =
           let ended = rw (is, empty) at next in
-          (lines, moments, written, subst (AreLines input lines) ended are, before, has_told, holds)
+          (lines, written, subst (AreLines input lines) ended are, before, holds)

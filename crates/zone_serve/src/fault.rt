@@ -1,9 +1,5 @@
 //! Why the program ends before its input does.
 
-ghost use Rattle.std.specs.Prelude.{◌≡◌};
-ghost use Rattle.zone_serve.specs.Faults.{argument_of, status_of};
-ghost use Rattle.zone_serve.specs.Faults as spec;
-
 use crate::frames::StreamFault;
 use crate::journals::JournalFileFault;
 use hickory_server::zone_text::FileRefusal;
@@ -176,9 +172,7 @@ pub enum Ended {
 
 impl Fault {
     /// Its exit status.
-    pub fn status(self) -> u8
-        ensures { result ≡ status_of self }
-    {
+    pub fn status(self) -> u8 {
         match self {
             Fault::Denied | Fault::Response | Fault::Unreadable | Fault::Line { .. } => 1,
             Fault::Stream(StreamFault::Partial | StreamFault::TooLong) => 1,
@@ -194,9 +188,7 @@ impl Fault {
     }
 
     /// The argument that it is of, if it is of one; the first is 1.
-    pub fn argument(self) -> Option<usize>
-        ensures { result ≡ argument_of self }
-    {
+    pub fn argument(self) -> Option<usize> {
         match self {
             Fault::Argument { place, .. } | Fault::UpdateZone { place } => Some(place),
             Fault::JournalZone { place } | Fault::ZoneTwice { place } => Some(place),
@@ -205,9 +197,7 @@ impl Fault {
     }
 
     /// The fault of the value of an option, which is the argument at this place.
-    pub fn of_argument(place: usize, fault: SettingFault) -> Fault
-        ensures { result ≡ spec.of_argument place fault }
-    {
+    pub fn of_argument(place: usize, fault: SettingFault) -> Fault {
         match fault {
             SettingFault::Memory => Fault::Memory,
             fault => Fault::Argument { place, fault },

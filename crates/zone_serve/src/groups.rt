@@ -2,14 +2,13 @@
 //! written together before any line of it is answered; else each line is answered before the next is served.
 
 ghost use Rattle.std.specs.Prelude.{◌≡◌, ◌++◌, [], ℕ, List, IfOk, IfSome, OnOk, Some};
-ghost use Rattle.std.specs.Io.KnownBytes.{Appends, Consumes};
+ghost use Rattle.std.specs.Io.KnownBytes.{Appends};
 ghost use Rattle.wire_names.specs.rr.domain.DomainName.{DomainName};
 ghost use Rattle.zone_serve.specs.Groups.{EachServed, GroupServed, LinesServed, NextLines, contents};
 ghost use Rattle.server.specs.Serving.{Stays};
 ghost use Rattle.signed_server.specs.KeyedServers.{keyed_of};
 ghost use Rattle.zone_serve.specs.Served.{AreLines, LineServed};
 
-use crate::clock::TimeSource;
 use crate::fault::Fault;
 use crate::lines::{BAD_LINE, answer_lines, read_line};
 use crate::serving::{answer_now, next_line, write};
@@ -17,6 +16,7 @@ use hickory_server::zone_handler::{Catalog, ReplySigner, ZoneHandler};
 use signed_server::SignedServer;
 use std::alloc::Global;
 use std::io::{BufRead, BufReader, Read, Write};
+use std::rt::Clock;
 
 /// How many lines are one group at most.
 const MOST_LINES: usize = 64;
@@ -72,17 +72,16 @@ pub trait Watch<S: ReplySigner, H: ZoneHandler> {
         ensures { catalog.new ≡ catalog.old };
 }
 
-/// The answer to a line, at the next moment of the clock if the line is a message; and whether it is one.
-fn answer_line<C: TimeSource, S: ReplySigner, H: ZoneHandler>(
+/// The answer to a line, and whether the line is a message.
+fn answer_line<S: ReplySigner, H: ZoneHandler>(
     alloc: Global,
-    clock: &mut C,
+    clock: &impl Clock,
     server: &mut SignedServer<S, H>,
     line: &[u8],
 ) -> Result<(Vec<u8>, bool), Fault>
     ensures stays { Stays server.old server.new }
-    ensures served { IfOk result (λ told. (moments : List ℕ) ×
-        LineServed (keyed_of H.ZoneHandler S.signature_for server.old) line.now moments told.0.items
-        server.new.server.catalog.zones told.1 × Consumes (C.moments clock.old) (C.moments clock.new) moments) }
+    ensures served { IfOk result (λ told. LineServed (keyed_of H.ZoneHandler S.signature_for server.old) line.now
+        told.0.items server.new.server.catalog.zones told.1) }
 {
     let Some(message) = read_line(alloc, line)? else {
         let told = BAD_LINE.to_vec(alloc)?;
@@ -101,17 +100,15 @@ struct Told {
 }
 
 /// The answers to lines, one after the other.
-fn answer_each<C: TimeSource, S: ReplySigner, H: ZoneHandler>(
+fn answer_each<S: ReplySigner, H: ZoneHandler>(
     alloc: Global,
-    clock: &mut C,
+    clock: &impl Clock,
     server: &mut SignedServer<S, H>,
     lines: &[Vec<u8>],
 ) -> Result<Told, Fault>
     ensures stays { Stays server.old server.new }
-    ensures served { IfOk result (λ told. (moments : List ℕ) ×
-        EachServed (keyed_of H.ZoneHandler S.signature_for server.old) (contents lines.now) moments
-        told.answers.items server.new.server.catalog.zones ×
-        Consumes (C.moments clock.old) (C.moments clock.new) moments) }
+    ensures served { IfOk result (λ told. EachServed (keyed_of H.ZoneHandler S.signature_for server.old)
+        (contents lines.now) told.answers.items server.new.server.catalog.zones) }
 {
     let mut answers = Vec::new(alloc);
     let mut bad = None;
@@ -126,18 +123,17 @@ fn answer_each<C: TimeSource, S: ReplySigner, H: ZoneHandler>(
 }
 
 /// The answers to lines, one after the other, after what zones hold by then is written.
-fn answer_held<C: TimeSource, S: ReplySigner, H: ZoneHandler, O: Holder<S, H>>(
+fn answer_held<S: ReplySigner, H: ZoneHandler, O: Holder<S, H>>(
     alloc: Global,
-    clock: &mut C,
+    clock: &impl Clock,
     server: &mut SignedServer<S, H>,
     holder: &O,
     lines: &[Vec<u8>],
 ) -> Result<Told, Fault>
     ensures stays { Stays server.old server.new }
-    ensures served { IfOk result (λ told. (ahead : List (DomainName × List H)) × (moments : List ℕ) ×
-        EachServed (keyed_of H.ZoneHandler S.signature_for server.old) (contents lines.now) moments
-        told.answers.items ahead × O.settles holder.now ahead server.new.server.catalog.zones ×
-        Consumes (C.moments clock.old) (C.moments clock.new) moments) }
+    ensures served { IfOk result (λ told. (ahead : List (DomainName × List H)) ×
+        EachServed (keyed_of H.ZoneHandler S.signature_for server.old) (contents lines.now) told.answers.items ahead ×
+        O.settles holder.now ahead server.new.server.catalog.zones) }
 {
     let told = answer_each(alloc, clock, server, lines)?;
     holder.settle(alloc, &mut server.server.catalog)?;
@@ -145,18 +141,17 @@ fn answer_held<C: TimeSource, S: ReplySigner, H: ZoneHandler, O: Holder<S, H>>(
 }
 
 /// Serves lines, each answered before the next is served: which of them is the first that is no message.
-fn serve_each<C: TimeSource, S: ReplySigner, H: ZoneHandler, W: Write>(
+fn serve_each<S: ReplySigner, H: ZoneHandler, W: Write>(
     alloc: Global,
-    clock: &mut C,
+    clock: &impl Clock,
     server: &mut SignedServer<S, H>,
     lines: &[Vec<u8>],
     writer: &mut W,
 ) -> Result<Option<usize>, Fault>
     ensures stays { Stays server.old server.new }
-    ensures served { OnOk result ((moments : List ℕ) × (written : List ℕ) ×
+    ensures served { OnOk result ((written : List ℕ) ×
         EachServed (keyed_of H.ZoneHandler S.signature_for server.old)
-        (contents lines.now) moments written server.new.server.catalog.zones ×
-        Consumes (C.moments clock.old) (C.moments clock.new) moments ×
+        (contents lines.now) written server.new.server.catalog.zones ×
         Appends (W.contents writer.old) (W.contents writer.new) written) }
 {
     let mut bad = None;
@@ -171,19 +166,18 @@ fn serve_each<C: TimeSource, S: ReplySigner, H: ZoneHandler, W: Write>(
 }
 
 /// Serves the lines of a group: which of them is the first that is no message.
-fn serve_group<C: TimeSource, S: ReplySigner, H: ZoneHandler, O: Holder<S, H>, W: Write>(
+fn serve_group<S: ReplySigner, H: ZoneHandler, O: Holder<S, H>, W: Write>(
     alloc: Global,
-    clock: &mut C,
+    clock: &impl Clock,
     server: &mut SignedServer<S, H>,
     holder: &O,
     lines: &[Vec<u8>],
     writer: &mut W,
 ) -> Result<Option<usize>, Fault>
     ensures stays { Stays server.old server.new }
-    ensures served { OnOk result ((moments : List ℕ) × (written : List ℕ) ×
+    ensures served { OnOk result ((written : List ℕ) ×
         GroupServed (O.begins holder.now) (O.settles holder.now) (keyed_of H.ZoneHandler S.signature_for server.old)
-        (contents lines.now) moments written server.new.server.catalog.zones ×
-        Consumes (C.moments clock.old) (C.moments clock.new) moments ×
+        (contents lines.now) written server.new.server.catalog.zones ×
         Appends (W.contents writer.old) (W.contents writer.new) written) }
 {
     if !holder.begin(alloc, &mut server.server.catalog, lines)? {
@@ -233,7 +227,6 @@ fn next_group<R: LinesAtHand>(alloc: Global, reader: &mut R) -> Result<Vec<Vec<u
 /// Serves the lines of a reader, until it ends, in groups of those that are at hand: the number of the first that is
 /// no message, if there is one.
 fn serve_groups<
-    C: TimeSource,
     S: ReplySigner,
     H: ZoneHandler,
     R: LinesAtHand,
@@ -242,7 +235,7 @@ fn serve_groups<
     T: Watch<S, H>,
 >(
     alloc: Global,
-    clock: &mut C,
+    clock: &impl Clock,
     server: &mut SignedServer<S, H>,
     reader: &mut R,
     writer: &mut W,
@@ -251,11 +244,10 @@ fn serve_groups<
 ) -> Result<Option<u64>, Fault>
     ensures stays { Stays server.old server.new }
     ensures served { OnOk result (IfSome (R.remaining reader.old) (λ input. (lines : List (List ℕ)) ×
-        (moments : List ℕ) × (written : List ℕ) ×
+        (written : List ℕ) ×
         AreLines input lines [] ×
         LinesServed (O.begins holder.now) (O.settles holder.now)
-        (keyed_of H.ZoneHandler S.signature_for server.old) lines moments written server.new.server.catalog.zones ×
-        Consumes (C.moments clock.old) (C.moments clock.new) moments ×
+        (keyed_of H.ZoneHandler S.signature_for server.old) lines written server.new.server.catalog.zones ×
         Appends (W.contents writer.old) (W.contents writer.new) written)) }
 {
     let mut bad = None;
@@ -286,9 +278,8 @@ fn number_of(before: u64, place: Option<usize>) -> Option<u64> {
 /// `holder` has zones hold the updates of a group, these are written before a line of it is answered, and all its
 /// answers are in memory until then; and `watch` looks after the zones after each group. The number of the first line
 /// that is no message, if there is one; the first line is 1. If held updates are not written, nothing of the
-/// group is answered. Each message is judged at a moment of its own, which the clock tells.
+/// group is answered.
 pub fn serve_lines<
-    C: TimeSource,
     S: ReplySigner,
     H: ZoneHandler,
     R: Read,
@@ -297,7 +288,7 @@ pub fn serve_lines<
     T: Watch<S, H>,
 >(
     alloc: Global,
-    clock: &mut C,
+    clock: &impl Clock,
     server: &mut SignedServer<S, H>,
     reader: &mut R,
     writer: &mut W,
@@ -306,11 +297,10 @@ pub fn serve_lines<
 ) -> Result<Option<u64>, Fault>
     ensures stays { Stays server.old server.new }
     ensures served { OnOk result (IfSome (R.remaining reader.old) (λ input. (lines : List (List ℕ)) ×
-        (moments : List ℕ) × (written : List ℕ) ×
+        (written : List ℕ) ×
         AreLines input lines [] ×
         LinesServed (O.begins holder.now) (O.settles holder.now)
-        (keyed_of H.ZoneHandler S.signature_for server.old) lines moments written server.new.server.catalog.zones ×
-        Consumes (C.moments clock.old) (C.moments clock.new) moments ×
+        (keyed_of H.ZoneHandler S.signature_for server.old) lines written server.new.server.catalog.zones ×
         Appends (W.contents writer.old) (W.contents writer.new) written)) }
 {
     let mut reader = match BufReader::with_capacity(alloc, READ_AHEAD, reader) {

@@ -5,7 +5,6 @@ ghost use Rattle.server.specs.Serving.{Stays};
 ghost use Rattle.signed_server.specs.KeyedServers.{keyed_of};
 ghost use Rattle.zone_serve.specs.Inputs.{InputServed};
 
-use crate::clock::TimeSource;
 use crate::fault::Fault;
 use crate::groups::{Holder, Watch, serve_lines};
 use crate::serving::{serve_datagram, serve_stream};
@@ -15,6 +14,7 @@ use signed_server::SignedServer;
 use std::alloc::Global;
 use std::io::{Read, Write};
 use std::net::IpAddr;
+use std::rt::Clock;
 
 /// How messages come, and the address that they come from, if no line says it.
 #[derive(Clone, Copy)]
@@ -25,10 +25,10 @@ pub struct Peer {
     pub address: IpAddr,
 }
 
-/// Serves an input by a server, as the mode says, each message at a moment of the clock: the number of the first line
-/// that is no message, if there is one; the first line is 1.
+/// Serves an input by a server, as the mode says: the number of the first line that is no message, if there is one; the
+/// first line is 1.
 pub fn serve_input<
-    C: TimeSource,
+    C: Clock + Alloc<A = Global>,
     S: ReplySigner,
     H: ZoneHandler,
     R: Read,
@@ -36,8 +36,7 @@ pub fn serve_input<
     O: Holder<S, H>,
     T: Watch<S, H>,
 >(
-    alloc: Global,
-    clock: &mut C,
+    rt: &C,
     server: &mut SignedServer<S, H>,
     peer: Peer,
     reader: &mut R,
@@ -53,20 +52,18 @@ pub fn serve_input<
           left = R.remaining reader.new;
           output = W.contents writer.old;
           filled = W.contents writer.new;
-          moments = C.moments clock.old;
-          later = C.moments clock.new;
         }) server.new.server.catalog.zones) }
 {
-    let address = peer.address;
+    let (alloc, address) = (rt.alloc(), peer.address);
     match peer.mode {
         Mode::Udp => {
-            serve_datagram(alloc, clock, server, address, reader, writer)?;
+            serve_datagram(alloc, rt, server, address, reader, writer)?;
             Ok(None)
         }
         Mode::Tcp => {
-            serve_stream(alloc, clock, server, address, reader, writer)?;
+            serve_stream(alloc, rt, server, address, reader, writer)?;
             Ok(None)
         }
-        Mode::Lines => serve_lines(alloc, clock, server, reader, writer, holder, watch),
+        Mode::Lines => serve_lines(alloc, rt, server, reader, writer, holder, watch),
     }
 }

@@ -8,12 +8,12 @@ ghost use Rattle.zone_serve.specs.Telling.{IsDue};
 ghost use Rattle.wire_names.specs.rr.domain.DomainName.{DomainName};
 ghost use Rattle.wire_names.specs.rr.domain.NameOrder.{lower_name};
 
-use crate::clock::{SystemClock, TimeSource};
 use crate::damage::{Damage, find_damage, is_none_at};
 use crate::fault::Fault;
 use crate::files::fault_of;
 use crate::groups::Watch;
 use crate::rules::apex_of;
+use crate::serving::now;
 use hickory_server::proto::LowerName;
 use hickory_server::zone_text::FileRefusal;
 use serve_options::arguments::ZoneArgument;
@@ -286,7 +286,7 @@ fn is_due(told: Option<u64>, now: u64) -> bool
 /// The time, in seconds since 1970; 0 if the system gives none.
 // No clause: no contract says what a clock reads.
 fn moment<R: Clock>(rt: &R) -> u64 {
-    SystemClock { rt }.seconds().unwrap_or(0)
+    now(rt).unwrap_or(0)
 }
 
 /// Tells that a journal takes no updates any more, if that is due.

@@ -14,7 +14,6 @@ ghost use Rattle.zone_serve.specs.Catalogs.{AreLoaded, AreZonesOf, IsZoneAt};
 ghost use Rattle.zone_serve.specs.Peers.{IsPeerText};
 ghost use Rattle.zone_serve.specs.Program.{IsServedBy, IsServerOf};
 
-mod clock;
 mod damage;
 mod fault;
 mod files;
@@ -32,7 +31,6 @@ mod rules;
 mod serving;
 mod updates;
 
-use crate::clock::{SystemClock, TimeSource};
 use crate::fault::{Fault, FileFault};
 use crate::files::FilesByPath;
 use crate::holder::JournalHolder;
@@ -232,19 +230,17 @@ fn server_for<R: Eprint + Alloc<A = Global>, O: FileOpener, D: Disk + Drop>(
     Ok(signed)
 }
 
-/// Serves an input as the arguments say, by the files that `opener` has, and with journals in `files`; messages are
-/// judged at the moments that `clock` tells: the number of the first line that is no message, if there is one.
+/// Serves an input as the arguments say, by the files that `opener` has, and with journals in `files`: the number of
+/// the first line that is no message, if there is one.
 fn serve_settings<
-    P: Clock + Files + Eprint + Alloc<A = Global>,
-    C: TimeSource,
+    C: Clock + Files + Eprint + Alloc<A = Global>,
     O: FileOpener,
     D: Disk + Drop,
     F: JournalFiles<D>,
     R: Read,
     W: Write,
 >(
-    rt: &P,
-    clock: &mut C,
+    rt: &C,
     opener: &O,
     files: &F,
     settings: &Settings<'_>,
@@ -258,39 +254,26 @@ fn serve_settings<
           left = R.remaining reader.new;
           output = W.contents writer.old;
           filled = W.contents writer.new;
-          moments = C.moments clock.old;
-          later = C.moments clock.new;
         })) }
 {
-    let alloc = rt.alloc();
     let mut server: SignedServer<LeftToServer, Handler<D>> = server_for(rt, opener, settings)?;
     let zones = &mut server.server.catalog;
     let journals = open_journals(rt, files, &settings.journals, zones)?;
-    let holder = JournalHolder::of(alloc, &journals, !settings.no_groups)?;
+    let holder = JournalHolder::of(rt.alloc(), &journals, !settings.no_groups)?;
     let mut watch = JournalWatch { rt, journals };
     let peer = Peer {
         mode: settings.mode,
         address,
     };
-    serve_input(
-        alloc,
-        clock,
-        &mut server,
-        peer,
-        reader,
-        writer,
-        &holder,
-        &mut watch,
-    )
+    serve_input(rt, &mut server, peer, reader, writer, &holder, &mut watch)
 }
 
 /// Serves the standard input as the arguments say.
 fn serve(rt: &HostRuntime, settings: &Settings<'_>, address: IpAddr) -> Result<(), Fault> {
-    let (opener, files, mut clock) = (FilesByPath { rt }, SystemFiles { rt }, SystemClock { rt });
+    let (opener, files) = (FilesByPath { rt }, SystemFiles { rt });
     let (mut reader, mut writer) = (rt.reader(), io::writer(rt));
     match serve_settings(
         rt,
-        &mut clock,
         &opener,
         &files,
         settings,

@@ -1,5 +1,4 @@
 -- Records that make a zone.
 pub mod FirstRecords
 pub mod RecordZones
-pub mod SetRows
 pub mod SetsOfRecords

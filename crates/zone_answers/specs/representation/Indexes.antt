@@ -1,5 +1,5 @@
 -- The sets of a zone in the order of their keys, with numbers by which they are searched.
-use Rattle.std.specs.Prelude.{◌≡◌, ◌<◌, ◌≤◌, ℕ, Bool, false, true, List, [], ◌∷◌, drop, length, slice_get, take, Some}
+use Rattle.std.specs.Prelude.{◌≡◌, ◌≤◌, ℕ, Bool, false, true, List, [], ◌∷◌, drop, length, slice_get, take, Some}
 use Rattle.std.specs.BTreeMap.Range.{range_contains}
 use Rattle.std.specs.List.{AllByRecursion, list_any}
 use Rattle.std.specs.declared.ops.Bound.TheVariants.{Included, Unbounded}
@@ -19,7 +19,7 @@ use Rattle.zone_answers.specs.representation.KeysBeside.{Entry}
 use Rattle.zone_answers.specs.Zones.{Records, Sets, rrset}
 
 -- Sets as a zone had them, and the name that all their owners are at or below. A mark is at the place of a name that
--- may have changed since, and at its sets. If no NS records below the apex have changed, the zone has these cuts.
+-- may have changed since, and at its sets. If no NS records have changed, the zone has these cuts.
 pub record IndexedSets : Type 0 where
   pub apex : DomainName
   pub entries : List Entry
@@ -56,7 +56,7 @@ pub record IsIndexBut (records : Records) (origin : DomainName) (sets : Sets) (i
   pub apex : index.apex ≡ origin
   pub held : (place : ℕ) (e : Entry) → IsClearAt index.entries index.marks place e → list_any (is_at e.0.name) records ≡ false → rrset sets e.0.name e.0.record_type ≡ Some e.1.value
   pub unmarked : (name : DomainName) (t : ℕ) → list_any (is_at name) records ≡ false → IsUnmarked index (record { name = name; record_type = 0 }) → HasStill sets index name t
-  pub servers : (name : DomainName) → length origin.labels < length name.labels → list_any (is_at name) records ≡ false → index.has_servers ≡ true → HasStill sets index name type_ns
+  pub servers : (name : DomainName) → list_any (is_at name) records ≡ false → index.has_servers ≡ true → HasStill sets index name type_ns
   pub outside : (name : DomainName) (t : ℕ) → list_any (is_at name) records ≡ false → ¬ (Encloses index.apex.labels name.labels) → HasStill sets index name t
 
 abbrev pub IsIndexOf : DomainName → Sets → IndexedSets → Type 0

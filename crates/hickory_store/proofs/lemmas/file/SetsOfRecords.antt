@@ -31,7 +31,6 @@ use Rattle.wire_messages.specs.declared.rr.rr_key.RrKey.{RrKey}
 use Rattle.hickory_base.proofs.lemmas.zone_store.SharedSets.{lookup-shared}
 use Rattle.hickory_base.proofs.lemmas.zone_store.ZoneByName.{key_total, of_under, rrset_found}
 use Rattle.hickory_store.specs.updates.Identity.{SameRrsets, SameZone, same_record, ttl_at}
-use Rattle.hickory_store.specs.representation.KeyedRecords.{key_for}
 use Rattle.hickory_store.specs.representation.ZoneSets.{HoldsSets, PutsSet, or_none, records_under}
 use Rattle.hickory_store.proofs.lemmas.updates.NamedSets.{existing_some, rrset_at}
 use Rattle.hickory_store.proofs.lemmas.updates.RecordByRecord.{itself, of_itself, type-lower}
@@ -47,11 +46,14 @@ key_alike = eq_by_cmp_equiv key_total
 
 -- ---- one record more
 
+abbrev pub key_for : Record RData → RrKey
+key_for q = record { name = lower_name q.name; record_type = type_of q.rdata }
+
 under_own : (q : Record RData) → IsUnder (key_for q) q
 under_own q = let s = lower_same q.name in record { name = record { labels = sym s.labels; marks = sym s.marks }; record_type = refl }
 
 -- the key of a record is found where its name and type are
-pub own_key : (q : Record RData) (name : DomainName) (t : ℕ) → is_of name t q ≡ is_key name t (key_for q)
+own_key : (q : Record RData) (name : DomainName) (t : ℕ) → is_of name t q ≡ is_key name t (key_for q)
 own_key q name t = of_under name t (key_for q) q (under_own q)
 
 some_last : (xs : Records) (q : Record RData) → existing (xs ++ q ∷ []) ≡ Some (xs ++ q ∷ [])
@@ -72,7 +74,7 @@ append_one (y ∷ xs) x ys = ap (λ more. y ∷ more) (append_one xs x ys)
 
 -- ---- sets that are shared
 
-pub map_cond : {X Y : Type 0} (f : X → Y) (b : Bool) (o x : Option X) → option_map f (cond b o x) ≡ cond b (option_map f o) (option_map f x)
+map_cond : {X Y : Type 0} (f : X → Y) (b : Bool) (o x : Option X) → option_map f (cond b o x) ≡ cond b (option_map f o) (option_map f x)
 map_cond f true o x = refl
 map_cond f false o x = refl
 

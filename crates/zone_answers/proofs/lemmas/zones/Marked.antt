@@ -1,5 +1,5 @@
 -- What the marks of an index tell of names that updates may have changed.
-use Rattle.std.proofs.Common.{◌≡◌, ℕ, zero, suc, ◌<◌, ◌≤◌, Bool, true, false, ◌||◌, ◌&&◌, List, [], ◌∷◌, ◌++◌, take, drop, length, Option, Some, None, refl, sym, ap, subst, ◌∙◌, arith, length-append}
+use Rattle.std.proofs.Common.{◌≡◌, ℕ, zero, suc, ◌<◌, ◌≤◌, Bool, true, false, ◌||◌, ◌&&◌, List, [], ◌∷◌, ◌++◌, take, drop, length, Option, Some, None, refl, sym, ap, subst, ◌∙◌, arith}
 use Rattle.std.specs.Prelude.{slice_get, slice_set, IfSome, IsSome}
 use Rattle.std.specs.List.{AllByRecursion, list_any}
 use Rattle.std.specs.List.Sorted.{IsStrictlySortedBy}
@@ -12,10 +12,9 @@ use Rattle.std.specs.declared.cmp.Ordering.TheVariants.{Equal}
 use Rattle.std.specs.declared.ops.Bound.TheVariants.{Included, Unbounded}
 use Rattle.std.specs.Ordering.{is_eq, is_gt, is_le, nat_cmp, ordering_reverse, ordering_then}
 use Rattle.std.proofs.lemmas.Bool.{false≢true}
-use Rattle.std.proofs.lemmas.List.{length-map}
 use Rattle.wire_names.specs.representation.NameHash.{equal_is}
 use Rattle.wire_names.specs.rr.domain.DomainName.{DomainName}
-use Rattle.wire_names.specs.rr.domain.NameOrder.{Encloses, lower_label, lower_labels, lower_name, name_cmp, name_cmp_total, name_eq}
+use Rattle.wire_names.specs.rr.domain.NameOrder.{Encloses, lower_labels, lower_name, name_cmp, name_cmp_total, name_eq}
 use Rattle.wire_names.proofs.lemmas.rr.domain.SameNames.{eq_from_same, lower_same}
 use Rattle.wire_messages.specs.rr.RrKeys.{key_cmp}
 use Rattle.wire_messages.specs.declared.rr.rdata.RData.{RData}
@@ -84,7 +83,7 @@ module _ (first : RrKey) (old new : IndexedSets) (m : Marks first old new) where
 
 -- ---- the sets of a name
 
-pub false_of : (b : Bool) → (b ≡ true → ⊥) → b ≡ false
+false_of : (b : Bool) → (b ≡ true → ⊥) → b ≡ false
 false_of true h = absurd (h refl)
 false_of false h = refl
 
@@ -141,7 +140,7 @@ module _ (records : Records) (origin : DomainName) (before after : Sets) (old ne
         unmarked = λ name t none u.
             let v = subst (λ (i : IndexedSets). IsUnmarked i (nameless name)) (sym m.new_is) u in
             kept name t none (λ soa. apart name v) ∙ of.unmarked name t refl (was_unmarked (nameless old.apex) old new m (nameless name) v);
-        servers = λ name below none has. kept name 2 none (λ soa. absurd (omega (arith, soa))) ∙ of.servers name below refl has;
+        servers = λ name none has. kept name 2 none (λ soa. absurd (omega (arith, soa))) ∙ of.servers name refl has;
         outside = λ name t none out. kept name t none (λ soa. not_apex name out) ∙ of.outside name t refl out;
       })
 
@@ -151,7 +150,7 @@ pub record OwnsNone (sets : Sets) (entries : List Entry) (name : DomainName) (t 
   pub after : rrset sets name t ≡ None
 
 module _ (r : Record RData) (rest : Records) (origin : DomainName) (sets : Sets) (old new : IndexedSets) (servers : Bool) (name : DomainName) (is : name ≡ lower_name r.name) (within : Encloses old.apex.labels name.labels)
-    (ns : servers ≡ true → (old.has_servers ≡ true) × (¬ (Encloses name.labels old.apex.labels) → OwnsNone sets old.entries name 2))
+    (ns : servers ≡ true → (old.has_servers ≡ true) × OwnsNone sets old.entries name 2)
     (m : Marks (nameless name) (record old { has_servers = servers }) new) (of : IsIndexBut (r ∷ rest) origin sets old) where
   abbrev mid : IndexedSets
   mid = record old { has_servers = servers }
@@ -171,19 +170,6 @@ module _ (r : Record RData) (rest : Records) (origin : DomainName) (sets : Sets)
   inside : (n : DomainName) → is_at n r ≡ true → Encloses old.apex.labels n.labels
   inside n e = record { front = within.front; ends = (same_of n name (equal_is (name_cmp n name) (named n e))).labels ∙ within.ends }
 
-  -- a name below the apex is not above it
-  apart_from : (n : DomainName) → is_at n r ≡ true → length origin.labels < length n.labels → ¬ (Encloses name.labels old.apex.labels)
-  apart_from n e below x = absurd (omega (
-    arith,
-    below,
-    ap length x.ends,
-    length-append x.front (lower_labels name.labels),
-    length-map old.apex.labels lower_label,
-    length-map n.labels lower_label,
-    ap length (same_of n name (equal_is (name_cmp n name) (named n e))).labels,
-    ap (λ (d : DomainName). length d.labels) of.apex,
-  ))
-
   -- one record more
   pub marked_on : IsIndexBut rest origin sets new
   marked_on =
@@ -199,18 +185,18 @@ module _ (r : Record RData) (rest : Records) (origin : DomainName) (sets : Sets)
             by_name n t (rrset (shared_sets old.entries) n t) (is_at n r) refl
             (λ e. absurd (other_key (nameless name) mid new m (nameless n) v (equal_keys name n (names.symm name n ∙ named n e))))
             (λ none. of.unmarked n t none (record { place = w.place; is = w.is; within = w.within; unmarked = w.unmarked })) none;
-        servers = λ n below none has. by_name n 2 (rrset (shared_sets old.entries) n 2) (is_at n r) refl (λ e. none_still n 2 e ((ns has).1 (apart_from n e below))) (λ none. of.servers n below none (ns has).0) none;
+        servers = λ n none has. by_name n 2 (rrset (shared_sets old.entries) n 2) (is_at n r) refl (λ e. none_still n 2 e (ns has).1) (λ none. of.servers n none (ns has).0) none;
         outside = λ n t none out. by_name n t (rrset (shared_sets old.entries) n t) (is_at n r) refl (λ e. absurd (out (inside n e))) (λ none. of.outside n t none out) none;
       })
 
 -- ---- cuts and glue of the zone as it is
 
-module _ (origin : DomainName) (one other : Sets) (servers : (n : DomainName) → length origin.labels < length n.labels → rrset other n 2 ≡ rrset one n 2) where
+module _ (origin : DomainName) (one other : Sets) (servers : (n : DomainName) → rrset other n 2 ≡ rrset one n 2) where
   cut_there : (n : DomainName) → IsCut (record { origin = origin; sets = one }) n → IsCut (record { origin = origin; sets = other }) n
-  cut_there n cut = record { within = cut.within; below_apex = cut.below_apex; servers = subst (λ (o : Option Records). IsSome o) (sym (servers n cut.below_apex)) cut.servers }
+  cut_there n cut = record { within = cut.within; below_apex = cut.below_apex; servers = subst (λ (o : Option Records). IsSome o) (sym (servers n)) cut.servers }
 
   cut_here : (n : DomainName) → IsCut (record { origin = origin; sets = other }) n → IsCut (record { origin = origin; sets = one }) n
-  cut_here n cut = record { within = cut.within; below_apex = cut.below_apex; servers = subst (λ (o : Option Records). IsSome o) (servers n cut.below_apex) cut.servers }
+  cut_here n cut = record { within = cut.within; below_apex = cut.below_apex; servers = subst (λ (o : Option Records). IsSome o) (servers n) cut.servers }
 
   pub cut_moves : (name : DomainName) (found : Option Records) → CutAbove (record { origin = origin; sets = one }) name found → CutAbove (record { origin = origin; sets = other }) name found
   cut_moves name None none = λ k some cut. none k some (cut_here (ancestor name k) cut)
@@ -218,7 +204,7 @@ module _ (origin : DomainName) (one other : Sets) (servers : (n : DomainName) �
     off = ends.off;
     above = ends.above;
     delegates = record { cut = cut_there (ancestor name ends.off) ends.delegates.cut; highest = λ j less cut. ends.delegates.highest j less (cut_here (ancestor name j) cut) };
-    servers = servers (ancestor name ends.off) ends.delegates.cut.below_apex ∙ ends.servers;
+    servers = servers (ancestor name ends.off) ∙ ends.servers;
   }
 
 module _ (index : IndexedSets) (origin : DomainName) (other : Sets) (of : IsIndexOf origin other index) where

@@ -1,6 +1,5 @@
 -- The lines so far are served.
-use Rattle.std.proofs.Common.{ℕ, List, take}
-use Rattle.std.specs.Io.KnownBytes.{Consumes}
+use Rattle.std.proofs.Common.{take}
 use Rattle.zone_serve.specs.Groups.{EachServed, contents}
 use Rattle.signed_server.specs.KeyedServers.{keyed_of}
 use Rattle.server.specs.Serving.{Stays}
@@ -8,5 +7,4 @@ use Rattle.zone_serve.proofs.groups.answer_each.Given as goal
 
 abbrev pub invariant-loop-place : goal.invariant-loop-place
 invariant-loop-place g l = Stays l.fn.server l.server
-    × (moments : List ℕ) × EachServed (keyed_of g.H.ZoneHandler g.S.ReplySigner.signature_for l.fn.server) (contents (take l.place l.lines)) moments l.answers.items l.server.server.catalog.zones
-    × Consumes (g.C.TimeSource.moments l.initial.clock) (g.C.TimeSource.moments l.clock) moments
+    × EachServed (keyed_of g.H.ZoneHandler g.S.ReplySigner.signature_for l.fn.server) (contents (take l.place l.lines)) l.answers.items l.server.server.catalog.zones

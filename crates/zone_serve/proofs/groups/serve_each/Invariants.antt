@@ -1,6 +1,6 @@
 -- The lines so far are served.
 use Rattle.std.proofs.Common.{ℕ, List, take}
-use Rattle.std.specs.Io.KnownBytes.{Appends, Consumes}
+use Rattle.std.specs.Io.KnownBytes.{Appends}
 use Rattle.zone_serve.specs.Groups.{EachServed, contents}
 use Rattle.signed_server.specs.KeyedServers.{keyed_of}
 use Rattle.server.specs.Serving.{Stays}
@@ -8,7 +8,5 @@ use Rattle.zone_serve.proofs.groups.serve_each.Given as goal
 
 abbrev pub invariant-loop-place : goal.invariant-loop-place
 invariant-loop-place g l = Stays l.fn.server l.server
-    × (moments : List ℕ) × (written : List ℕ)
-    × EachServed (keyed_of g.H.ZoneHandler g.S.ReplySigner.signature_for l.fn.server) (contents (take l.place l.lines)) moments written l.server.server.catalog.zones
-    × Consumes (g.C.TimeSource.moments l.initial.clock) (g.C.TimeSource.moments l.clock) moments
+    × (written : List ℕ) × EachServed (keyed_of g.H.ZoneHandler g.S.ReplySigner.signature_for l.fn.server) (contents (take l.place l.lines)) written l.server.server.catalog.zones
     × Appends (g.W.Write.contents l.initial.writer) (g.W.Write.contents l.writer) written

@@ -12,13 +12,11 @@ returns-then-not-branch-clause-served g c =
     let stays : Stays c.args.server.now held = record { keys = refl; transfer_keys = refl; rules = refl; others = c.in_ok-begin.ensures.others } in
     let none : c.in_ok-begin.field-0 ≡ false = search rules in
     on_ok c.serve_each.result _ _
-    (λ (moments, written, served, tells, appends). (
-      moments,
-      written,
+    (λ served. (
+      served.0,
       as_ever g.H.ZoneHandler g.S.ReplySigner.signature_for (g.O.Holder.begins c.args.holder.now) (g.O.Holder.settles c.args.holder.now) c.args.server.now held stays
-          (contents c.args.lines.now) moments written c.serve_each.new.server.server.catalog.zones (rw none at c.in_ok-begin.ensures.begun) served,
-      tells,
-      appends,
+          (contents c.args.lines.now) served.0 c.serve_each.new.server.server.catalog.zones (rw none at c.in_ok-begin.ensures.begun) served.1,
+      served.2,
     ))
     c.serve_each.ensures.served
 
@@ -27,11 +25,9 @@ returns-clause-served g c =
     let held : SignedServer g.row.S.Denot g.row.H.Denot = record c.args.server.now { server = record c.args.server.now.server { catalog = c.begin.new.catalog } } in
     let stays : Stays c.args.server.now held = record { keys = refl; transfer_keys = refl; rules = refl; others = c.in_ok-begin.ensures.others } in
     let holds : c.in_ok-begin.field-0 ≡ true = search rules in
-    let (ahead, moments, each, written, tells) = c.in_ok-told.ensures.served in (
-      moments,
+    let (ahead, each, written) = c.in_ok-told.ensures.served in (
       c.in_ok-told.told.answers.items,
       settled g.H.ZoneHandler g.S.ReplySigner.signature_for (g.O.Holder.begins c.args.holder.now) (g.O.Holder.settles c.args.holder.now) c.args.server.now held stays
-          (contents c.args.lines.now) moments c.in_ok-told.told.answers.items ahead c.answer_held.new.server.server.catalog.zones (rw holds at c.in_ok-begin.ensures.begun) each written,
-      tells,
+          (contents c.args.lines.now) c.in_ok-told.told.answers.items ahead c.answer_held.new.server.server.catalog.zones (rw holds at c.in_ok-begin.ensures.begun) each written,
       rw c.deref.ensures.value at c.in_ok-write.ensures,
     )

@@ -14,7 +14,7 @@ pub loop-init : goal.loop-init
 loop-init g c = (
   stays_so c.args.server.now,
   so_far_none (g.O.Holder.begins c.args.holder.now) (g.O.Holder.settles c.args.holder.now) (keyed_of g.H.ZoneHandler g.S.ReplySigner.signature_for c.args.server.now)
-      (g.R.Read.remaining c.args.reader.now) (g.C.TimeSource.moments c.args.clock.now) (g.W.Write.contents c.args.writer.now),
+      (g.R.Read.remaining c.args.reader.now) (g.W.Write.contents c.args.writer.now),
 )
 
 pub loop-preserved : goal.loop-preserved
@@ -25,14 +25,13 @@ loop-preserved g c =
     let same : last ≡ served_by = ap (λ (it : Catalog g.row.S.Denot g.row.H.Denot). let after : SignedServer g.row.S.Denot g.row.H.Denot = record served_by { server = record served_by.server { catalog = it } } in after) c.after_lines.ensures in
     let so_far_stays = stays_on c.args.server.now c.loop.server served_by stays c.in_ok-first_bad.ensures.stays in
     let size : c.in_ok-lines.lines.len ≡ length c.in_ok-lines.lines.items = search rules in
-    let (moments, back, served, tells, appends) = c.in_ok-first_bad.ensures.served in (
+    let (back, served, appends) = c.in_ok-first_bad.ensures.served in (
       subst (λ (s : SignedServer g.row.S.Denot g.row.H.Denot). Stays c.args.server.now s) (sym same) so_far_stays,
       so_far_more (g.O.Holder.begins c.args.holder.now) (g.O.Holder.settles c.args.holder.now) g.H.ZoneHandler g.S.ReplySigner.signature_for
           c.args.server.now c.loop.server last stays
           (g.R.Read.remaining c.args.reader.now) (g.R.Read.remaining c.loop.reader) (g.R.Read.remaining c.next_group.new.reader)
-          (g.C.TimeSource.moments c.args.clock.now) (g.C.TimeSource.moments c.loop.clock) (g.C.TimeSource.moments c.serve_group.new.clock)
           (g.W.Write.contents c.args.writer.now) (g.W.Write.contents c.loop.writer) (g.W.Write.contents c.serve_group.new.writer)
-          (contents c.in_ok-lines.lines.items) moments back (some_lines c.in_ok-lines.lines.items (ap (λ (n : ℕ). n == 0) (sym size) ∙ sym c.is_empty.ensures ∙ c.if-is_empty.false)) so_far c.in_ok-lines.ensures
-          (subst (λ (s : SignedServer g.row.S.Denot g.row.H.Denot). GroupServed (g.O.Holder.begins c.args.holder.now) (g.O.Holder.settles c.args.holder.now) (keyed_of g.H.ZoneHandler g.S.ReplySigner.signature_for c.loop.server) (contents c.in_ok-lines.lines.items) moments back s.server.catalog.zones)
-          (sym same) (rw c.deref.ensures.value at served)) tells appends,
+          (contents c.in_ok-lines.lines.items) back (some_lines c.in_ok-lines.lines.items (ap (λ (n : ℕ). n == 0) (sym size) ∙ sym c.is_empty.ensures ∙ c.if-is_empty.false)) so_far c.in_ok-lines.ensures
+          (subst (λ (s : SignedServer g.row.S.Denot g.row.H.Denot). GroupServed (g.O.Holder.begins c.args.holder.now) (g.O.Holder.settles c.args.holder.now) (keyed_of g.H.ZoneHandler g.S.ReplySigner.signature_for c.loop.server) (contents c.in_ok-lines.lines.items) back s.server.catalog.zones)
+          (sym same) (rw c.deref.ensures.value at served)) appends,
     )

@@ -1,37 +1,32 @@
-use Rattle.std.proofs.Common.{◌++◌, [], rules}
+use Rattle.std.proofs.Common.{◌≡◌, ◌++◌, [], true, false, rules}
 use Rattle.std.proofs.KnownBytes.{Appends-nil, Appends-trans, Consumes-nil, Consumes-trans}
-use Rattle.zone_serve.specs.Served.StreamServed.{none}
+use Rattle.zone_serve.specs.Served.{none}
 use Rattle.server.proofs.Streams.{stays_on, stays_so}
-use Rattle.zone_serve.proofs.Streams.{stream_more}
+use Rattle.zone_serve.proofs.Streams.{stream_end, stream_more}
 use Rattle.zone_serve.proofs.serving.serve_stream.Goals as goal
 
 pub loop-init : goal.loop-init
-loop-init g c = (stays_so c.args.server.now, [], [], [], none, Consumes-nil _, Consumes-nil _, Appends-nil _)
+loop-init g c = (stays_so c.args.server.now, [], [], none, Consumes-nil _, Appends-nil _)
 
 pub loop-preserved : goal.loop-preserved
 loop-preserved g c =
-    let (stays, moments, read, written, served, tells, consumes, appends) = c.loop.invariant in
-    let (those_moments, those_read, those_written, next, tells_next, consumes_next, appends_next) = rw c.new-source.ensures.ip at c.in_ok-serve_next.ensures.served in (
+    let (stays, read, written, served, consumes, appends) = c.loop.invariant in
+    let (frame, frames, next, consumes_next, appends_next) = rw c.source_of-source.ensures at c.in_ok-serve_next.ensures.served in
+    let is_more : c.in_ok-serve_next.field-0 ≡ true = search rules in (
       stays_on c.args.server.now c.loop.server c.serve_next.new.server stays c.in_ok-serve_next.ensures.stays,
-      moments ++ those_moments,
-      read ++ those_read,
-      written ++ those_written,
-      stream_more g.H.ZoneHandler g.S.ReplySigner.signature_for c.args.address c.args.server.now c.loop.server stays moments read written served those_moments those_read those_written _ next,
-      Consumes-trans _ _ _ moments those_moments tells tells_next,
-      Consumes-trans _ _ _ read those_read consumes consumes_next,
-      Appends-trans _ _ _ written those_written appends appends_next,
+      read ++ frame,
+      written ++ frames,
+      stream_more g.H.ZoneHandler g.S.ReplySigner.signature_for c.args.address c.args.server.now c.loop.server c.serve_next.new.server stays
+          read written frame frames served (rw is_more at next),
+      Consumes-trans _ _ _ read frame consumes consumes_next,
+      Appends-trans _ _ _ written frames appends appends_next,
     )
 
 pub returns-then-not-branch-clause-served : goal.returns-then-not-branch-clause-served
 returns-then-not-branch-clause-served g c =
-    let (stays, moments, read, written, served, tells, consumes, appends) = c.loop.invariant in
-    let (those_moments, those_read, those_written, next, tells_next, consumes_next, appends_next) = rw c.new-source.ensures.ip at c.in_ok-serve_next.ensures.served in (
-      moments ++ those_moments,
-      read ++ those_read,
-      written ++ those_written,
-      stream_more g.H.ZoneHandler g.S.ReplySigner.signature_for c.args.address c.args.server.now c.loop.server stays moments read written served those_moments those_read those_written _ next,
-      Consumes-trans _ _ _ moments those_moments tells tells_next,
-      Consumes-trans _ _ _ read those_read consumes consumes_next,
-      search rules,
-      Appends-trans _ _ _ written those_written appends appends_next,
-    )
+    let (stays, read, written, served, consumes, appends) = c.loop.invariant in
+    let (frame, frames, next, consumes_next, appends_next) = rw c.source_of-source.ensures at c.in_ok-serve_next.ensures.served in
+    let is_end : c.in_ok-serve_next.field-0 ≡ false = search rules in
+    let ended = stream_end g.H.ZoneHandler g.S.ReplySigner.signature_for c.args.address c.args.server.now c.loop.server c.serve_next.new.server stays
+    _ _ _ _ _ _ read written frame frames served (rw is_end at next) consumes consumes_next appends appends_next in
+    (read, written, ended.0, ended.1, search rules, ended.2)

@@ -8,7 +8,5 @@ use Rattle.zone_serve.proofs.serving.serve_stream.Given as goal
 
 abbrev pub invariant-loop : goal.invariant-loop
 invariant-loop g l = Stays l.fn.server l.server
-    × (moments : List ℕ) × (read : List ℕ) × (written : List ℕ)
-    × StreamServed (keyed_of g.H.ZoneHandler g.S.ReplySigner.signature_for l.fn.server) l.fn.address moments read written l.server.server.catalog.zones
-    × Consumes (g.C.TimeSource.moments l.initial.clock) (g.C.TimeSource.moments l.clock) moments
+    × (read : List ℕ) × (written : List ℕ) × StreamServed (keyed_of g.H.ZoneHandler g.S.ReplySigner.signature_for l.fn.server) l.fn.address read written l.server.server.catalog.zones
     × Consumes (g.R.Read.remaining l.initial.reader) (g.R.Read.remaining l.reader) read × Appends (g.W.Write.contents l.initial.writer) (g.W.Write.contents l.writer) written

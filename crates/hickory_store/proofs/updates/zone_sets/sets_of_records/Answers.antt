@@ -1,17 +1,17 @@
--- The map has what the row of sets has.
-use Rattle.std.proofs.Common.{rules}
-use Rattle.std.proofs.lemmas.Iterator.Adapters.{YieldsList-from_vec, fact_from_collect}
-use Rattle.std.proofs.lemmas.Result.{IfOk-weaker}
-use Rattle.std.specs.BTreeMap.{IsFromIterResult}
-use Rattle.wire_messages.specs.rr.RrKeys.{key_cmp}
-use Rattle.hickory_base.specs.zone_store.ZoneSets.{sets_of}
-use Rattle.hickory_store.specs.representation.ZoneSets.{HoldsSets}
-use Rattle.hickory_store.proofs.lemmas.file.SetRows.{made}
+-- The record goes behind the front.
+use Rattle.std.proofs.Common.{◌∙◌, ◌∷◌, [], ◌++◌, List, sym, ap}
+use Rattle.std.specs.Vec.Iter.{into_iter_items}
+use Rattle.wire_messages.specs.declared.rr.rdata.RData.{RData}
+use Rattle.wire_messages.specs.declared.rr.record.Record.{Record}
+use Rattle.hickory_store.proofs.lemmas.file.SetsOfRecords.{append_one}
 use Rattle.hickory_store.proofs.updates.zone_sets.sets_of_records.Goals as goal
 
-pub returns : goal.returns
-returns c =
-    let row = c.in_ok-row.row.items in
-    IfOk-weaker c.collect.result (IsFromIterResult key_cmp row) (λ sets. HoldsSets c.args.records.items (sets_of sets))
-    (λ sets is. made c.args.records.items c.in_ok-records.records.items row sets c.in_ok-records.ensures.stable c.in_ok-row.ensures.held c.in_ok-row.ensures.ordered is)
-    (fact_from_collect (IsFromIterResult key_cmp) c.collect.result c.collect.ensures.ran (YieldsList-from_vec row (search rules) (search rules)))
+pub loop-q-preserved : goal.loop-q-preserved
+loop-q-preserved c =
+    let front : List (Record RData) = c.loop-q.invariant.2 in (
+      tt,
+      tt,
+      front ++ c.in-Some.q ∷ [],
+      append_one front c.in-Some.q (into_iter_items c.next.new.self) ∙ ap (λ (xs : List (Record RData)). front ++ xs) (sym c.in-Some.ensures.steps.0) ∙ c.loop-q.invariant.3,
+      c.in_ok-put_record.ensures front c.loop-q.invariant.4,
+    )

@@ -1,9 +1,8 @@
 use Rattle.std.proofs.Common.{◌≡◌, ◌∷◌, ◌∙◌, ℕ, None, ap, subst, sym}
 use Rattle.hickory_base.specs.zone_store.ZoneSets.{sets_of, shared_sets}
-use Rattle.wire_names.specs.rr.domain.NameOrder.{Encloses}
 use Rattle.wire_messages.specs.declared.rr.rr_key.RrKey.{RrKey}
 use Rattle.zone_answers.proofs.lemmas.zones.Kept.{nameless}
-use Rattle.zone_answers.proofs.lemmas.zones.Marked.{false_of, marked_on}
+use Rattle.zone_answers.proofs.lemmas.zones.Marked.{marked_on}
 use Rattle.zone_answers.specs.representation.Indexes.{IndexedSets, IsIndexBut, Marks}
 use Rattle.zone_answers.specs.Zones.{rrset}
 use Rattle.zone_answers.proofs.index.Index.mark_owner.Goals as goal
@@ -22,8 +21,7 @@ returns c = λ done origin rest of.
     let none_before = λ (t : ℕ) (h : rrset (shared_sets c.args.self.now.entries) c.new-first.result.name t ≡ None).
     subst (λ (x : IndexedSets). rrset (shared_sets x.entries) name t ≡ None) (sym c.self.view_is) (subst (λ (k : RrKey). rrset (shared_sets c.args.self.now.entries) k.name t ≡ None) first h) in
     let none_after = λ (t : ℕ) (h : rrset sets c.new-first.result.name t ≡ None). subst (λ (k : RrKey). rrset sets k.name t ≡ None) first h in
-    let at_apex = λ (q : c.zone_of-is_apex.result ≡ true). subst (λ (k : RrKey). Encloses k.name.labels old.apex.labels) first (c.zone_of-is_apex.ensures.0 q) in
     marked_on c.args.r.now rest origin sets old c.mark.new.self c.is_still-self-inside.result name c.in-Ok.ensures (c.zone_of.ensures.0 c.if-not-zone_of.false)
-    (λ has. let s = c.is_still-self-inside.ensures has in (s.0, λ apart. let none = s.1 (false_of c.zone_of-is_apex.result (λ q. apart (at_apex q))) in record { before = none_before 2 (c.has_servers_in-before.ensures none.0); after = none_after 2 (c.has_servers_at-after.ensures none.1) }))
+    (λ has. let s = c.is_still-self-inside.ensures has in (s.0, record { before = none_before 2 (c.has_servers_in-before.ensures s.1); after = none_after 2 (c.has_servers_at-after.ensures s.2) }))
     (subst (λ (k : RrKey). Marks k (record old { has_servers = c.is_still-self-inside.result }) c.mark.new.self) first c.mark.ensures)
     (subst (IsIndexBut (c.args.r.now ∷ rest) origin sets) (sym c.self.view_is) of)

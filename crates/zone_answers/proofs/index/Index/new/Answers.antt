@@ -105,6 +105,6 @@ returns c =
       held = λ place e clear none. still e.0.name e.0.record_type
           ∙ own_set entries place e (in_order entries c.loop-key.key-iterator (sets_of c.args.zone.sets.now) c.loop-key.invariant.sets c.in-None.ensures.steps.0 c.requires.ordered) clear.there;
       unmarked = λ name t none clear. still name t;
-      servers = λ name below none has. still name 2;
+      servers = λ name none has. still name 2;
       outside = λ name t none out. still name t;
     }
