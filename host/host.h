@@ -77,9 +77,8 @@ static inline bool is_zone(const struct given *it) {
     return it->option->set_pair == zone_service_add_zone;
 }
 
-/* What all processes share: what the workers counted, how many notices wait, how many have closed their sockets to end,
- * and a number that
- * grows when they are to begin a query log, and is odd if they are to have none. */
+/* What all processes share: what the workers counted, how many notices wait, how many workers have closed their sockets
+ * to end, and a number that grows when they are to begin a query log, and is odd if they are to have none. */
 #define COUNTERS (sizeof(struct zone_service_counters) / sizeof(uint64_t))
 extern struct shared {
     uint64_t counters[COUNTERS], journal_failures, notices, left;

@@ -59,10 +59,11 @@ uint32_t zone_service_create(void **at);
 void zone_service_free(zone_service service);
 
 /* Settings, made before the first message, in any order, with these exceptions: a list of blocked names is for the zones
- * that are added after it, the keys come before what names one, and a zone before the rules of its transfers. Each returns DONE; or FAULT or MEMORY, and puts a
- * text that says why into fault, of at most room bytes and without a zero after it; *length is how many they are. After
- * DONE it is 0, unless lines of a list of blocked names were skipped. After FAULT and MEMORY the server is to be freed: a
- * list of networks may be as before or not, and zone_service_add_zone may have put its zone in place of another zone of
+ * that are added after it, the keys come before what names one, and a zone before the rules of its transfers. Each returns
+ * DONE; or FAULT or MEMORY, and puts a text that says why into fault, of at most room bytes and without a zero after it;
+ * *length is how many they are. After DONE it is 0, unless lines of a list of blocked names were skipped. After FAULT and
+ * MEMORY the server is to be freed: a list of networks may be as before or not, rules of a zone's transfers may be begun,
+ * and zone_service_add_zone may have put its zone in place of another zone of
  * that name. Only after FAULT of a zone's file, zone_service_fail_zone may be called in its place. The place in a file
  * comes first, as LINE: or LINE:COLUMN:. No text has a part of a file of keys.
  *
@@ -215,8 +216,8 @@ uint32_t zone_service_compact(zone_service *service, size_t journal, uint8_t *fa
  *     serial. What still waits of the zone is dropped. A zone without an SOA record is not announced. DONE; or MEMORY, and
  *     nothing has changed.
  * zone_service_notice: puts the notice that is due next to the front of out, and to whom it is sent: *len is how many of
- *     the 16 bytes its address has, 4 or 16. It counts as sent with this id, which is to be random. A notice has less
- *     than 2,048 bytes. DONE, NO_NOTICE, or MEMORY.
+ *     the 16 bytes its address has, 4 or 16. It counts as sent with this id, which is to be random. A notice has
+ *     at most 512 bytes. DONE, NO_NOTICE, or MEMORY.
  * zone_service_give_up: takes out a notice that got no answer, and puts a text that says so, *length bytes long. DONE, or
  *     NO_NOTICE.
  * zone_service_hear: a datagram came from this address and port. If it answers a notice, that is not sent again. If it
